@@ -1,0 +1,4 @@
+pub mod Dates
+pub mod Hours
+pub mod Tables
+pub mod Texts

@@ -1,0 +1,125 @@
+// Hours of official time, and their place on the clock.
+ghost use mathlib.Core.Bool.{true};
+ghost use mathlib.Core.Path.{_≡_};
+ghost use Prim.Native.Nat.{ℕ, _+_, _-_, _*_, _<_, _≤_};
+ghost use Rattle.official_time.specs.Hours.{clock-day, clock-place, DayLength, flag, GoesOn, InSummer, is-hour, IsLabel, season-flag};
+ghost use Rattle.official_time.specs.declared.season.Season.the-variants.{Summer};
+ghost use Rattle.std.specs.Options.{isSome};
+ghost use Rattle.std.specs.Slices.{found};
+use crate::changes::change_day;
+use crate::date::Day;
+use crate::label::Label;
+use crate::season::Season;
+use crate::season::SeasonPartialEq;
+
+// An hour by its number: hour h ends h hours after 2000/01/01 00:00 winter time.
+#[derive(Clone, Copy, PartialEq, Eq, PartialOrd, Ord, Debug)]
+pub struct Hour {
+    number: u32,
+    ghost first: { 1 ≤ number },
+    ghost last: { number ≤ 876599 },
+}
+
+impl Hour {
+    // The hour of a number; none outside 1 to 876,599.
+    pub fn new(number: u32) -> Option<Hour>
+        ensures test { λ r. ⌜ isSome r ≡ is-hour number ⌝ }
+        ensures value { λ r. ⌜ found r (λ h. h .number ≡ number) ⌝ }
+    {
+        if number >= 1 && number <= 876_599 {
+            Some(Hour { number })
+        } else {
+            None
+        }
+    }
+
+    pub fn number(self) -> u32
+        ensures value { λ r. ⌜ r ≡ self .number ⌝ }
+        ensures test { λ r. ⌜ is-hour r ≡ true ⌝ }
+    {
+        self.number
+    }
+
+    // Summer or winter: summer from the last Sunday of March to the last Sunday of October of its year.
+    pub fn season(self) -> Season
+        ensures value { λ r. ⌜ season-flag r ≡ flag (self .number) ⌝ }
+        ensures summer { λ r. ⌜ (r ≡ Summer → InSummer (self .number)) × (InSummer (self .number) → r ≡ Summer) ⌝ }
+    {
+        // 1,461 days are eight half-years. The clock changes once in each, to summer in the first of a year.
+        let half = 8 * (self.number / 24) / 1461;
+        let changed = self.number >= 24 * change_day(half) + 2;
+        if changed == (half % 2 == 0) {
+            Season::Summer
+        } else {
+            Season::Winter
+        }
+    }
+
+    // The label of the hour, the only one: the date and clock of its end, by the time that is in force then.
+    pub fn label(self) -> Label
+        ensures value { λ r. ⌜ IsLabel (self .number) r ⌝ }
+        ensures only { λ r. ⌜ ((l : Label) → IsLabel (self .number) l → l ≡ r) ⌝ }
+    {
+        let flag = self.season().flag();
+        let clock = self.number + flag;
+        Label {
+            date: Day::at(clock / 24).date(),
+            hour: clock % 24,
+            minute: 0,
+            second: 0,
+            flag,
+        }
+    }
+
+    // The day in which the clock shows the hour.
+    pub fn clock_day(self) -> Day
+        ensures { λ r. ⌜ r .number ≡ clock-day (self .number) ⌝ }
+    {
+        Day::at((self.number + self.season().flag() - 1) / 24)
+    }
+
+    // The place of the hour in its clock day, from 1: 1 ends at 01:00 and 24 at midnight.
+    pub fn clock_place(self) -> u32
+        ensures value { λ r. ⌜ r ≡ clock-place (self .number) ⌝ }
+        ensures goes_on { λ _. ⌜ (self .number < 876599 → GoesOn (self .number)) ⌝ }
+    {
+        (self.number + self.season().flag() - 1) % 24 + 1
+    }
+}
+
+// The hours of a clock day, from the first to the last.
+#[derive(Clone, Copy, PartialEq, Eq, Debug)]
+pub struct DayHours {
+    pub first: Hour,
+    pub last: Hour,
+}
+
+impl DayHours {
+    // The hours that the clock shows in a day: 24, but for the days on which it changes and the last of all.
+    pub fn of(day: Day) -> DayHours
+        ensures all { λ r. ⌜ ((h : ℕ) → is-hour h ≡ true → clock-day h ≡ day .number → (r .first .number ≤ h) × (h ≤ r .last .number)) ⌝ }
+        ensures only { λ r. ⌜ ((h : ℕ) → r .first .number ≤ h → h ≤ r .last .number → clock-day h ≡ day .number) ⌝ }
+        ensures length { λ r. ⌜ DayLength (day .number) (r .last .number + 1 - r .first .number) ⌝ }
+    {
+        // By winter time a day that begins in summer begins an hour early, and so it ends where it ends in summer.
+        let midnight = 24 * day.number();
+        let early = flag_at(midnight + 1);
+        let late = flag_at(midnight + 23);
+        DayHours {
+            first: Hour {
+                number: midnight + 1 - early,
+            },
+            last: Hour {
+                number: (midnight + 24 - late).min(876_599),
+            },
+        }
+    }
+}
+
+fn flag_at(number: u32) -> u32
+    requires { ⌜ 1 ≤ number ⌝ ∗ ⌜ number ≤ 876599 ⌝ }
+    ensures value { λ r. ⌜ r ≡ flag number ⌝ }
+    ensures bound { λ r. ⌜ r ≤ 1 ⌝ }
+{
+    Hour { number }.season().flag()
+}

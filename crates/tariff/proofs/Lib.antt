@@ -1,0 +1,2 @@
+pub mod January
+pub mod Lists

@@ -1,0 +1,3 @@
+pub mod Timetables
+pub mod Rules
+pub mod Calendars

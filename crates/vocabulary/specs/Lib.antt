@@ -1,0 +1,4 @@
+pub mod Alphabets
+pub mod Codes
+pub mod Ranges
+pub mod Refusals
