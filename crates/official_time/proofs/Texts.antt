@@ -1,11 +1,14 @@
 -- A text that is a date.
 use mathlib.Core.Path.{_≡_, refl, sym, ap, _∙_}
+use mathlib.Core.Bool.{true}
 use mathlib.Core.List.{List, [], _∷_, _++_}
 use Prim.Native.Nat.{ℕ, zero, suc, _+_, _*_, _/_, _%_, _<_}
 use native.Mathlib.Omega.{arith}
 use lib.ListN.{length, getD}
-use Rattle.official_time.specs.Dates.{on}
-use Rattle.official_time.specs.Texts.{date-text, four-digits, two-digits}
+use Rattle.official_time.specs.declared.date.Date.{Date}
+use Rattle.official_time.specs.Dates.{is-date, on}
+use Rattle.official_time.specs.Texts.{date-text, four-digits, Short, two-digits}
+use Rattle.official_time.proofs.Dates.{parts}
 
 abbrev pub first-places : ℕ → (ℕ → ℕ) → List ℕ
 first-places zero f = []
@@ -28,3 +31,24 @@ date-back t c y m d len s1 s2 l pc py pm pd =
     (λ i. x i ++ 47 ∷ (two-digits m ++ 47 ∷ two-digits d))
     ∙ (λ i. (pc i ++ py i) ++ sym s1 i ∷ (pm i ++ sym s2 i ∷ pd i))
     ∙ sym f
+
+-- every date from 2000 to 2099 is short enough to be written
+pub real-short : (d : Date) → is-date d ≡ true → Short d
+real-short d h = let p = parts d h in record { year = omega arith; month = omega arith; day = omega arith }
+
+-- two dates that are written alike are the same
+pub one-date : (d e : Date) → Short d → Short e → date-text d ≡ date-text e → d ≡ e
+one-date d e sd se p =
+    let at : (k : ℕ) → getD (date-text d) k 0 ≡ getD (date-text e) k 0 = λ k. ap (λ l. getD l k 0) p in
+    let a = at 0 in
+    let b = at 1 in
+    let c = at 2 in
+    let f = at 3 in
+    let g = at 5 in
+    let h = at 6 in
+    let j = at 8 in
+    let k = at 9 in
+    let years : d .year ≡ e .year = omega arith in
+    let months : d .month ≡ e .month = omega arith in
+    let days : d .day ≡ e .day = omega arith in
+    λ i. record { year = years i; month = months i; day = days i }

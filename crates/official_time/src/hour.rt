@@ -99,6 +99,7 @@ impl DayHours {
     pub fn of(day: Day) -> DayHours
         ensures all { λ r. ⌜ ((h : ℕ) → is-hour h ≡ true → clock-day h ≡ day .number → (r .first .number ≤ h) × (h ≤ r .last .number)) ⌝ }
         ensures only { λ r. ⌜ ((h : ℕ) → r .first .number ≤ h → h ≤ r .last .number → clock-day h ≡ day .number) ⌝ }
+        ensures order { λ r. ⌜ r .first .number ≤ r .last .number ⌝ }
         ensures length { λ r. ⌜ DayLength (day .number) (r .last .number + 1 - r .first .number) ⌝ }
     {
         // By winter time a day that begins in summer begins an hour early, and so it ends where it ends in summer.

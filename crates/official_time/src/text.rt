@@ -61,10 +61,10 @@ pub impl fmt::Display for Label as LabelDisplay {
 }
 
 impl Date {
-    // The date that a text writes as aaaa/mm/dd; any other text is refused with 16. Whether there is
+    // The date that a text writes as aaaa/mm/dd, the only one; any other text is refused with 16. Whether there is
     // such a date, `day` says.
     pub fn read(text: &[u8]) -> Result<Date, Refusal>
-        ensures { λ r. ⌜ Cases r (λ d. Short d × (date-text d ≡ now (text .entry))) (λ e. (notice e ≡ plain 16) × ((d : Date) → Short d → date-text d ≡ now (text .entry) → ⊥)) ⌝ }
+        ensures { λ r. ⌜ Cases r (λ d. Short d × (date-text d ≡ now (text .entry)) × ((other : Date) → Short other → date-text other ≡ now (text .entry) → other ≡ d)) (λ e. (notice e ≡ plain 16) × ((d : Date) → Short d → date-text d ≡ now (text .entry) → ⊥)) ⌝ }
     {
         match read_parts(text) {
             Some(date) => Ok(date),

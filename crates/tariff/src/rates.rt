@@ -82,7 +82,8 @@ pub struct Calendar20Td<'a> {
 
 impl<'a> Calendar20Td<'a> {
     pub fn new(holidays: Holidays<'a>) -> Calendar20Td<'a>
-        ensures { λ r. ⌜ r .holidays ≡ holidays .entry ⌝ }
+        ensures value { λ r. ⌜ r .holidays ≡ holidays .entry ⌝ }
+        ensures january { λ _. ⌜ Six-january-law ⌝ }
     {
         Calendar20Td { holidays }
     }

@@ -5,6 +5,7 @@ ghost use mathlib.Core.Path.{_≡_};
 ghost use Prim.Native.Nat.{_<_};
 ghost use Rattle.std.specs.declared.option.Option.the-variants.{Some};
 ghost use Rattle.vocabulary.specs.Refusals.{in-line, letter, notice, plain as of-number, told};
+use std::error::Error;
 use std::fmt;
 
 // A field of a line of an F5D file.
@@ -206,3 +207,5 @@ pub impl fmt::Display for Refusal as RefusalDisplay {
         write!(f, "{number};{line};{field};")
     }
 }
+
+pub impl Error for Refusal as RefusalError {}

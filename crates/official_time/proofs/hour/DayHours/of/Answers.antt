@@ -23,5 +23,6 @@ returns c =
     record {
       all = λ h t e. let w = within 1 last-hour h t in let i = in-day (d .number) (d .counted) h (w .0) (w .1) e in (omega arith, omega arith);
       only = λ h low high. let f = first-counts (d .number) (d .counted) in of-day (d .number) (d .counted) h (omega arith) (omega arith) (omega arith) (omega arith);
+      order = omega arith;
       length = day-length (d .number) _ (d .counted) (omega arith);
     }
