@@ -107,7 +107,6 @@ cycle Saturday = refl
 cycle Sunday = refl
 
 weeks : (q r : ℕ) → weekday (7 * q + r) ≡ weekday r
-unfolding weekday
 weeks zero r = let n : 7 * 0 + r ≡ r = omega arith in ap weekday n
 weeks (suc q) r =
     let n : 7 * suc q + r ≡ suc (suc (suc (suc (suc (suc (suc (7 * q + r))))))) = omega arith in
@@ -137,7 +136,7 @@ place-tomorrow Saturday = refl
 place-tomorrow Sunday = refl
 
 place-weekday : (d : ℕ) → place (weekday d) ≡ d % 7
-unfolding place weekday
+unfolding place
 place-weekday zero = refl
 place-weekday (suc d) = let ih = place-weekday d in let t = place-tomorrow (weekday d) in omega arith
 
@@ -165,11 +164,11 @@ same-date d e hd he same =
     let b = ap (λ y. days-of-months y (e .month)) years in
     let c = ap (λ y. month-days y (e .month)) years in
     let months : d .month ≡ e .month =
-        ⊎-elim (λ m. m)
-        (⊎-elim
-            (λ l. let h = apart (d .year) (d .month) (e .month) (d .day) (e .day) l (rd .days .0) (rd .days .1) (re .days .0) in absurd (omega arith))
-            (λ l. let h = apart (d .year) (e .month) (d .month) (e .day) (d .day) l (re .days .0) (omega arith) (rd .days .0) in absurd (omega arith)))
-        (cases-order (d .month) (e .month)) in
+    ⊎-elim (λ m. m)
+    (⊎-elim
+    (λ l. let h = apart (d .year) (d .month) (e .month) (d .day) (e .day) l (rd .days .0) (rd .days .1) (re .days .0) in absurd (omega arith))
+    (λ l. let h = apart (d .year) (e .month) (d .month) (e .day) (d .day) l (re .days .0) (omega arith) (rd .days .0) in absurd (omega arith)))
+    (cases-order (d .month) (e .month)) in
     let f = ap (days-of-months (d .year)) months in
     let days : d .day ≡ e .day = omega arith in
     λ i. record { year = years i; month = months i; day = days i }

@@ -16,7 +16,7 @@ use Rattle.official_time.proofs.Dates.{leap-small, years-closed, real, Real, i
 
 -- the formula gives the last Sunday
 pub sunday-there : (y m : ℕ) → 2000 ≤ y → y ≤ 2099 → month-days y m ≡ 31 → LastSunday y m (last-sunday y m)
-unfolding day-of weekday
+unfolding day-of
 sunday-there y m low high len = record {
   date = 31 - (day-of (on y m 31) + 6) % 7;
   real = is-real y m (31 - (day-of (on y m 31) + 6) % 7) low high (omega arith) (omega arith);
@@ -122,15 +122,18 @@ first-half n even =
     omega arith
 
 -- the flag, told from the one change of the half-year in which the hour ends
-pub flag-by-half : (h d : ℕ) → h ≤ last-hour → d ≡ change-day (8 * (h / 24) / 1461) → flag h ≡ cond (Bool·beq (leb (24 * d + 2) h) (eqb (8 * (h / 24) / 1461 % 2) 0)) 1 0
+flag-by-half : (h d : ℕ) → h ≤ last-hour → d ≡ change-day (8 * (h / 24) / 1461) → flag h ≡ cond (Bool·beq (leb (24 * d + 2) h) (eqb (8 * (h / 24) / 1461 % 2) 0)) 1 0
 flag-by-half h d l e = go (leb (24 * d + 2) h) (eqb (8 * (h / 24) / 1461 % 2) 0) refl refl
   where
     y : 2000 + 8 * (h / 24) / 1461 / 2 ≡ year-of h
     y = omega arith
+
     begins : eqb (8 * (h / 24) / 1461 % 2) 0 ≡ true → d ≡ last-sunday (year-of h) 3
     begins q = e ∙ ap (λ b. last-sunday (2000 + 8 * (h / 24) / 1461 / 2) (cond b 3 10)) q ∙ ap (λ n. last-sunday n 3) y
+
     ends : eqb (8 * (h / 24) / 1461 % 2) 0 ≡ false → d ≡ last-sunday (year-of h) 10
     ends q = e ∙ ap (λ b. last-sunday (2000 + 8 * (h / 24) / 1461 / 2) (cond b 3 10)) q ∙ ap (λ n. last-sunday n 10) y
+
     go : (p q : Bool) → leb (24 * d + 2) h ≡ p → eqb (8 * (h / 24) / 1461 % 2) 0 ≡ q → flag h ≡ cond (Bool·beq p q) 1 0
     go true true p q =
         let a = leb-true (24 * d + 2) h p in
@@ -156,6 +159,10 @@ flag-by-half h d l e = go (leb (24 * d + 2) h) (eqb (8 * (h / 24) / 1461 % 2) 0)
         let c = years-closed (year-of h - 2000) in
         let late = second-half (h / 24) r in
         between-flag h (omega arith) (omega arith)
+
+pub flag-by-change : (h n d : ℕ) → h ≤ last-hour → n ≡ 8 * (h / 24) / 1461 → d ≡ change-day n → flag h ≡ cond (Bool·beq (leb (24 * d + 2) h) (eqb (n % 2) 0)) 1 0
+flag-by-change h n d l e f =
+    subst (λ k. d ≡ change-day k → flag h ≡ cond (Bool·beq (leb (24 * d + 2) h) (eqb (k % 2) 0)) 1 0) (sym e) (flag-by-half h d l) f
 
 -- the clock never passes the last hour
 pub clock-bound : (h : ℕ) → h ≤ last-hour → h + flag h ≤ last-hour
@@ -200,16 +207,15 @@ label-from h l s =
     let b = s .clock in
     let c = s .season in
     let here : h ≡ meant l = omega arith in
-    let f : l .flag ≡ flag (meant l) = c ∙ ap flag here in
-    (
+    let f : l .flag ≡ flag (meant l) = c ∙ ap flag here in (
       and-from _ _
-      (and-from _ _
-        (and-from _ _
+          (and-from _ _
+          (and-from _ _
           (and-from _ _ (and-from _ _ (s .date) (lt-ltb (l .hour) 24 (s .below-24))) (eq-eqb (l .minute) 0 (s .full .0)))
           (eq-eqb (l .second) 0 (s .full .1)))
-        (and-from _ _ (le-leb 1 (meant l) (omega arith)) (le-leb (meant l) last-hour (omega arith))))
-      (eq-eqb (l .flag) (flag (meant l)) f),
-      here
+          (and-from _ _ (le-leb 1 (meant l) (omega arith)) (le-leb (meant l) last-hour (omega arith))))
+          (eq-eqb (l .flag) (flag (meant l)) f),
+      here,
     )
 
 pub no-label : (l : Label) → ((h : ℕ) → IsLabel h l → ⊥) → is-label l ≡ false
@@ -234,17 +240,19 @@ step-out h s z =
     (cases-lt (h + 1) (24 * s .ends + 2))
 
 pub goes-on : (h : ℕ) → 1 ≤ h → h < last-hour → GoesOn h
-unfolding clock-day clock-place
 goes-on h one l = ⊎-elim (λ e. same e) (λ ne. changed ne) (cases-eq (flag (h + 1)) (flag h))
   where
     same : flag (h + 1) ≡ flag h → GoesOn h
     same e =
         ⊎-elim (λ m. ordinary e (omega arith) (omega arith)) (λ m. midnight e (omega arith) (omega arith) (omega arith))
         (cases-lt ((h + flag h - 1) % 24) 23)
+
     to-summer : (s : InSummer (h + 1)) → flag h ≡ 0 → flag (h + 1) ≡ 1 → GoesOn h
     to-summer s a b = let e = step-in h s a in spring a b (omega arith) (omega arith) (omega arith)
+
     to-winter : (s : InSummer h) → flag h ≡ 1 → flag (h + 1) ≡ 0 → GoesOn h
     to-winter s a b = let e = step-out h s b in autumn a b (omega arith) (omega arith) (omega arith)
+
     changed : (flag (h + 1) ≡ flag h → ⊥) → GoesOn h
     changed ne =
         let a = flag-small h in
@@ -282,22 +290,23 @@ module _ (d : ℕ) (l : d < 36525) where
       (cases-eq (flag (24 * d + 1)) 1)
 
   pub in-day : (h : ℕ) → 1 ≤ h → h ≤ last-hour → clock-day h ≡ d → (24 * d + 1 - flag (24 * d + 1) ≤ h) × (h ≤ 24 * d + 24 - flag (24 * d + 23))
-  unfolding clock-day
   in-day h one most e = (from (cases-eq h (24 * d)), to (cases-eq h (24 * d + 24)))
     where
       s : flag h ≤ 1
       s = flag-small h
+
       t : flag (24 * d + 23) ≤ 1
       t = flag-small (24 * d + 23)
+
       from : (h ≡ 24 * d) ⊎ (h ≡ 24 * d → ⊥) → 24 * d + 1 - flag (24 * d + 1) ≤ h
       from (inl k) = let f = ap flag k in let a = at-first in omega arith
       from (inr n) = let b = s in omega arith
+
       to : (h ≡ 24 * d + 24) ⊎ (h ≡ 24 * d + 24 → ⊥) → h ≤ 24 * d + 24 - flag (24 * d + 23)
       to (inl k) = let f = ap flag k in let m : d < 36524 = omega arith in let a = at-last m in let b = s in omega arith
       to (inr n) = let b = s in let c = t in omega arith
 
   pub of-day : (h : ℕ) → 1 ≤ h → h ≤ last-hour → 24 * d + 1 - flag (24 * d + 1) ≤ h → h ≤ 24 * d + 24 - flag (24 * d + 23) → clock-day h ≡ d
-  unfolding clock-day
   of-day h one most low high = go (cases-eq h (24 * d)) (cases-eq h (24 * d + 24))
     where
       go : (h ≡ 24 * d) ⊎ (h ≡ 24 * d → ⊥) → (h ≡ 24 * d + 24) ⊎ (h ≡ 24 * d + 24 → ⊥) → clock-day h ≡ d
@@ -360,6 +369,7 @@ day-length d n l e = go (cases-eq (flag (24 * d + 1)) 1) (cases-eq (flag (24 * d
   where
     is : (m : ℕ) → n ≡ m → DayLength d m → DayLength d n
     is m q = subst (DayLength d) (sym q)
+
     even : flag (24 * d + 1) ≡ flag (24 * d + 23) → DayLength d n
     even q =
         let s = flag-small (24 * d + 1) in
@@ -368,16 +378,19 @@ day-length d n l e = go (cases-eq (flag (24 * d + 1)) 1) (cases-eq (flag (24 * d
         (λ m. is 24 (omega arith) (ordinary (λ y t. let p = spring-day y d t in omega arith) (λ y t. let p = autumn-day y d t in omega arith) m))
         (λ m. is 23 (omega arith) (last (omega arith)))
         (cases-lt d 36524)
+
     short : flag (24 * d + 1) ≡ 0 → flag (24 * d + 23) ≡ 1 → InSummer (24 * d + 23) → DayLength d n
     short z o s =
         let b = clock-bound (24 * d + 23) (omega arith) in
         is 23 (omega arith) (spring (s .year) (subst (LastSunday (s .year) 3) (sym (spring-found d s z)) (s .march)))
+
     long : flag (24 * d + 1) ≡ 1 → flag (24 * d + 23) ≡ 0 → InSummer (24 * d + 1) → DayLength d n
     long o z s =
         let g = flag-between (24 * d + 1) o in
         let m = october-near (year-of (24 * d + 1)) in
         let c = years-closed (year-of (24 * d + 1) - 2000) in
         is 25 (omega arith) (autumn (s .year) (subst (LastSunday (s .year) 10) (sym (autumn-found d s z)) (s .october)))
+
     go : (flag (24 * d + 1) ≡ 1) ⊎ (flag (24 * d + 1) ≡ 1 → ⊥) → (flag (24 * d + 23) ≡ 1) ⊎ (flag (24 * d + 23) ≡ 1 → ⊥) → DayLength d n
     go (inl a) (inl b) = even (a ∙ sym b)
     go (inr a) (inr b) = even (flag-zero (24 * d + 1) a ∙ sym (flag-zero (24 * d + 23) b))

@@ -58,7 +58,7 @@ tomorrow Friday = Saturday
 tomorrow Saturday = Sunday
 tomorrow Sunday = Monday
 
-unfoldable pub weekday : ℕ → Weekday
+abbrev pub weekday : ℕ → Weekday
 weekday zero = Saturday
 weekday (suc d) = tomorrow (weekday d)
 

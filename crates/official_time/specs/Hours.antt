@@ -65,10 +65,10 @@ unfoldable pub is-label : Label → Bool
 is-label l = is-date (l .date) && ltb (l .hour) 24 && eqb (l .minute) 0 && eqb (l .second) 0 && is-hour (meant l) && eqb (l .flag) (flag (meant l))
 
 -- the clock day of an hour, and its place in that day, from 1
-unfoldable pub clock-day : ℕ → ℕ
+abbrev pub clock-day : ℕ → ℕ
 clock-day h = (h + flag h - 1) / 24
 
-unfoldable pub clock-place : ℕ → ℕ
+abbrev pub clock-place : ℕ → ℕ
 clock-place h = (h + flag h - 1) % 24 + 1
 
 -- how the clock goes on from an hour to the next one

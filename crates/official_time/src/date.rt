@@ -9,7 +9,7 @@ ghost use Rattle.vocabulary.specs.Refusals.{notice, plain};
 use vocabulary::Refusal;
 
 // A date as it is written; whether there is such a date, `day` says.
-#[derive(Clone, Copy, PartialEq, Eq, Debug)]
+#[derive(Clone, Copy, Debug)]
 pub struct Date {
     pub year: u32,
     pub month: u32,
@@ -17,13 +17,13 @@ pub struct Date {
 }
 
 // A day of 2000 to 2099 by its number: 0 is 2000/01/01.
-#[derive(Clone, Copy, PartialEq, Eq, PartialOrd, Ord, Debug)]
+#[derive(Clone, Copy, PartialEq, Eq, Debug)]
 pub struct Day {
     number: u32,
     ghost counted: { number < 36525 },
 }
 
-#[derive(Clone, Copy, PartialEq, Eq, Debug)]
+#[derive(Clone, Copy, Debug)]
 pub enum Weekday {
     Monday,
     Tuesday,
@@ -187,14 +187,22 @@ impl Day {
     pub fn weekday(self) -> Weekday
         ensures { λ r. ⌜ r ≡ weekday (self .number) ⌝ }
     {
-        match self.number % 7 {
-            0 => Weekday::Saturday,
-            1 => Weekday::Sunday,
-            2 => Weekday::Monday,
-            3 => Weekday::Tuesday,
-            4 => Weekday::Wednesday,
-            5 => Weekday::Thursday,
-            _ => Weekday::Friday,
-        }
+        weekday_at(self.number % 7)
+    }
+}
+
+// The weekday of one of the first seven days, and so of every seventh from there.
+fn weekday_at(day: u32) -> Weekday
+    requires { ⌜ day < 7 ⌝ }
+    ensures { λ r. ⌜ r ≡ weekday day ⌝ }
+{
+    match day {
+        0 => Weekday::Saturday,
+        1 => Weekday::Sunday,
+        2 => Weekday::Monday,
+        3 => Weekday::Tuesday,
+        4 => Weekday::Wednesday,
+        5 => Weekday::Thursday,
+        _ => Weekday::Friday,
     }
 }

@@ -1,7 +1,7 @@
 // Hours of official time, and their place on the clock.
 ghost use mathlib.Core.Bool.{true};
 ghost use mathlib.Core.Path.{_≡_};
-ghost use Prim.Native.Nat.{ℕ, _+_, _-_, _*_, _<_, _≤_};
+ghost use Prim.Native.Nat.{ℕ, min, _+_, _-_, _*_, _/_, _<_, _≤_};
 ghost use Rattle.official_time.specs.Hours.{clock-day, clock-place, DayLength, flag, GoesOn, InSummer, is-hour, IsLabel, season-flag};
 ghost use Rattle.official_time.specs.declared.season.Season.the-variants.{Summer};
 ghost use Rattle.std.specs.Options.{isSome};
@@ -10,10 +10,9 @@ use crate::changes::change_day;
 use crate::date::Day;
 use crate::label::Label;
 use crate::season::Season;
-use crate::season::SeasonPartialEq;
 
 // An hour by its number: hour h ends h hours after 2000/01/01 00:00 winter time.
-#[derive(Clone, Copy, PartialEq, Eq, PartialOrd, Ord, Debug)]
+#[derive(Clone, Copy, Debug)]
 pub struct Hour {
     number: u32,
     ghost first: { 1 ≤ number },
@@ -45,14 +44,30 @@ impl Hour {
         ensures value { λ r. ⌜ season-flag r ≡ flag (self .number) ⌝ }
         ensures summer { λ r. ⌜ (r ≡ Summer → InSummer (self .number)) × (InSummer (self .number) → r ≡ Summer) ⌝ }
     {
-        // 1,461 days are eight half-years. The clock changes once in each, to summer in the first of a year.
-        let half = 8 * (self.number / 24) / 1461;
+        // The clock changes once in each half-year, to summer in the first of a year.
+        let half = self.half_year();
         let changed = self.number >= 24 * change_day(half) + 2;
         if changed == (half % 2 == 0) {
             Season::Summer
         } else {
             Season::Winter
         }
+    }
+
+    // The half-year in which the hour ends, counted from 0 at the beginning of 2000: 1,461 days are eight.
+    fn half_year(self) -> u32
+        ensures value { λ r. ⌜ r ≡ 8 * (self .number / 24) / 1461 ⌝ }
+        ensures bound { λ r. ⌜ r < 200 ⌝ }
+    {
+        8 * (self.number / 24) / 1461
+    }
+
+    // How many hours the clock of that day and all before it has shown when the hour begins.
+    fn clock(self) -> u32
+        ensures value { λ r. ⌜ r ≡ self .number + flag (self .number) - 1 ⌝ }
+        ensures bound { λ r. ⌜ r ≤ 876599 ⌝ }
+    {
+        self.number + self.season().flag() - 1
     }
 
     // The label of the hour, the only one: the date and clock of its end, by the time that is in force then.
@@ -75,7 +90,7 @@ impl Hour {
     pub fn clock_day(self) -> Day
         ensures { λ r. ⌜ r .number ≡ clock-day (self .number) ⌝ }
     {
-        Day::at((self.number + self.season().flag() - 1) / 24)
+        Day::at(self.clock() / 24)
     }
 
     // The place of the hour in its clock day, from 1: 1 ends at 01:00 and 24 at midnight.
@@ -83,12 +98,12 @@ impl Hour {
         ensures value { λ r. ⌜ r ≡ clock-place (self .number) ⌝ }
         ensures goes_on { λ _. ⌜ (self .number < 876599 → GoesOn (self .number)) ⌝ }
     {
-        (self.number + self.season().flag() - 1) % 24 + 1
+        self.clock() % 24 + 1
     }
 }
 
 // The hours of a clock day, from the first to the last.
-#[derive(Clone, Copy, PartialEq, Eq, Debug)]
+#[derive(Clone, Copy, Debug)]
 pub struct DayHours {
     pub first: Hour,
     pub last: Hour,
@@ -102,18 +117,30 @@ impl DayHours {
         ensures order { λ r. ⌜ r .first .number ≤ r .last .number ⌝ }
         ensures length { λ r. ⌜ DayLength (day .number) (r .last .number + 1 - r .first .number) ⌝ }
     {
-        // By winter time a day that begins in summer begins an hour early, and so it ends where it ends in summer.
-        let midnight = 24 * day.number();
-        let early = flag_at(midnight + 1);
-        let late = flag_at(midnight + 23);
         DayHours {
-            first: Hour {
-                number: midnight + 1 - early,
-            },
-            last: Hour {
-                number: (midnight + 24 - late).min(876_599),
-            },
+            first: first_of(day),
+            last: last_of(day),
         }
+    }
+}
+
+// By winter time a day that begins in summer begins an hour early.
+fn first_of(day: Day) -> Hour
+    ensures { λ r. ⌜ r .number ≡ 24 * day .number + 1 - flag (24 * day .number + 1) ⌝ }
+{
+    let number = 24 * day.number() + 1;
+    Hour {
+        number: number - flag_at(number),
+    }
+}
+
+// And so does a day end that ends in summer. The last day of all lacks its last hour.
+fn last_of(day: Day) -> Hour
+    ensures { λ r. ⌜ r .number ≡ min (24 * day .number + 24 - flag (24 * day .number + 23)) 876599 ⌝ }
+{
+    let number = 24 * day.number() + 23;
+    Hour {
+        number: (number + 1 - flag_at(number)).min(876_599),
     }
 }
 

@@ -7,14 +7,13 @@ ghost use Rattle.std.specs.Results.{Cases, isOk};
 ghost use Rattle.std.specs.Vec.{made};
 ghost use Rattle.vocabulary.specs.Refusals.{notice, plain};
 use crate::date::Date;
+use crate::date::DateDebug;
 use crate::hour::Hour;
 use vocabulary::Refusal;
-use crate::date::DateDebug;
-use crate::date::DatePartialEq;
 
 // The date and clock of an hour's end with its summer flag, as they are written; whether an hour has
 // this label, `hour` says.
-#[derive(Clone, Copy, PartialEq, Eq, Debug)]
+#[derive(Clone, Copy, Debug)]
 pub struct Label {
     pub date: Date,
     pub hour: u32,

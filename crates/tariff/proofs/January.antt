@@ -34,13 +34,14 @@ module _ (d : ℕ) (l : d < 36525) where
           let k = eqb-true (x .day) 6 (p .1) in
           let q : x ≡ on (x .year) 1 6 = λ i. record { year = x .year; month = m i; day = k i } in
           t ∙ sym (january-from (x .year) (ap is-date (sym q) ∙ r) (sym e ∙ ap day-of q))
+
       no-six : (eqb (x .month) 1 && eqb (x .day) 6) ≡ false → is-6-january d ≡ false
       no-six n =
           ⊎-elim
           (λ t.
-            let q = january-to t in
-            let w : x ≡ on (q .0) 1 6 = same-date x (on (q .0) 1 6) r (q .1) (e ∙ q .2) in
-            absurd (both-ways (eqb (x .month) 1 && eqb (x .day) 6) n (and-from _ _ (eq-eqb (x .month) 1 (λ i. w i .month)) (eq-eqb (x .day) 6 (λ i. w i .day)))))
+          let q = january-to t in
+          let w : x ≡ on (q .0) 1 6 = same-date x (on (q .0) 1 6) r (q .1) (e ∙ q .2) in
+          absurd (both-ways (eqb (x .month) 1 && eqb (x .day) 6) n (and-from _ _ (eq-eqb (x .month) 1 (λ i. w i .month)) (eq-eqb (x .day) 6 (λ i. w i .day)))))
           (λ f. f) (cases-bool (is-6-january d))
 
 pub six-january-law : Six-january-law

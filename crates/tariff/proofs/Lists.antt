@@ -18,6 +18,6 @@ contains-listed d [] true s = absurd (not-suc-le-zero (s .1))
 contains-listed d [] false s = refl
 contains-listed d (x ∷ xs) true (zero, l, here) = sym (or-left _ _ (eq-eqb (d .number) (x .number) (sym (here x .0 refl))))
 contains-listed d (x ∷ xs) true (suc k, l, here) = sym (or-right _ _ (sym (contains-listed d xs true (k, omega arith, here))))
-contains-listed d (x ∷ xs) false s = 
+contains-listed d (x ∷ xs) false s =
     sym (or-from _ _ (ne-eqb (d .number) (x .number) (λ e. true≢false (sym (s 0 x (omega arith) (omega arith) .1 (sym e)))))
-      (sym (contains-listed d xs false (λ k y low high. s (suc k) y (omega arith) (omega arith)))))
+    (sym (contains-listed d xs false (λ k y low high. s (suc k) y (omega arith) (omega arith)))))

@@ -11,12 +11,12 @@ ghost use Rattle.tariff.specs.Rules.{by-place, free-day, is-6-january, is-week
 ghost use Rattle.vocabulary.specs.Refusals.{notice, plain};
 use crate::calendar::Calendar;
 use official_time::Day;
+use official_time::DayDebug;
+use official_time::DayPartialEq;
 use official_time::Hour;
 use official_time::Season;
 use official_time::Weekday;
 use vocabulary::Refusal;
-use official_time::DayDebug;
-use official_time::DayPartialEq;
 
 // 2.0A: one period.
 #[derive(Clone, Copy, Debug)]

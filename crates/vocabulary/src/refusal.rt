@@ -9,7 +9,7 @@ use std::error::Error;
 use std::fmt;
 
 // A field of a line of an F5D file.
-#[derive(Clone, Copy, PartialEq, Eq, Debug)]
+#[derive(Clone, Copy, Debug)]
 pub enum Field {
     Supply,
     Label,
@@ -49,7 +49,7 @@ impl Field {
 }
 
 // Why a call was refused. Each case has a number of its own, but that 13 speaks of a name or a line.
-#[derive(Clone, Copy, PartialEq, Eq, Debug)]
+#[derive(Clone, Copy, Debug)]
 pub enum Refusal {
     // 1: no hour has this label
     NoSuchLabel,
@@ -122,7 +122,7 @@ pub enum Refusal {
 }
 
 // A refusal as it is told: number, line (0 for none) and field letter (`-` for none).
-#[derive(Clone, Copy, PartialEq, Eq, Debug)]
+#[derive(Clone, Copy, Debug)]
 pub struct Notice {
     pub number: u8,
     pub line: usize,

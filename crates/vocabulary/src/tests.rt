@@ -79,12 +79,6 @@ fn invoice_codes_are_1_to_26_visible_bytes() -> Result<(), Fail> {
 }
 
 #[test]
-fn equal_invoice_codes_have_equal_text() -> Result<(), Fail> {
-    check_eq(InvoiceCode::new(b"F0001")?, InvoiceCode::new(b"F0001")?)?;
-    check_ne(InvoiceCode::new(b"F0001")?, InvoiceCode::new(b"F00010")?)
-}
-
-#[test]
 fn energies_stay_in_their_unit() -> Result<(), Fail> {
     check_eq(KWh(3).in_wh(), Wh(3000))?;
     check_eq(Wh(1).checked_add(Wh(2)), Some(Wh(3)))?;

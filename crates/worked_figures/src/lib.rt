@@ -10,5 +10,4 @@ pub fn worked_figures()
     // In the night of 27 October 2024 it shows 02:00 twice.
     ensures before_autumn { λ _. ⌜ Labelled 217585 2024 10 27 2 1 ⌝ }
     ensures after_autumn { λ _. ⌜ Labelled 217586 2024 10 27 2 0 ⌝ }
-{
-}
+{}

@@ -13,7 +13,7 @@ use crate::refusal::Refusal;
 
 // 1 to 26 visible ASCII characters other than `;`. The bytes behind them are zero, so that each code
 // is held in one way only.
-#[derive(Clone, Copy, PartialEq, Eq, PartialOrd, Ord, Debug)]
+#[derive(Clone, Copy)]
 pub struct InvoiceCode {
     bytes: [u8; 26],
     len: usize,

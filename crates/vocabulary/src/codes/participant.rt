@@ -8,7 +8,7 @@ use super::alphabet::Alphabet;
 use crate::refusal::Refusal;
 
 // 4 digits or capital letters.
-#[derive(Clone, Copy, PartialEq, Eq, PartialOrd, Ord, Debug)]
+#[derive(Clone, Copy)]
 pub struct ParticipantCode {
     bytes: [u8; 4],
     ghost formed: { is-participant bytes ≡ true },

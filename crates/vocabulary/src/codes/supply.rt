@@ -8,7 +8,7 @@ use super::alphabet::Alphabet;
 use crate::refusal::Refusal;
 
 // 22 digits or capital letters.
-#[derive(Clone, Copy, PartialEq, Eq, PartialOrd, Ord, Debug)]
+#[derive(Clone, Copy)]
 pub struct SupplyCode {
     bytes: [u8; 22],
     ghost formed: { is-supply bytes ≡ true },

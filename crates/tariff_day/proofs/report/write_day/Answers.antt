@@ -14,12 +14,11 @@ loop-number-holds c = ([], none, sym (append-nil _))
 
 -- one more line behind the lines so far
 one-more : {days : List Day} {first h k : ℕ} {l : Label} {bytes : List ℕ} (before between after : List ℕ) → Lines days first h bytes → k ≡ h → IsLabel k l → between ≡ before ++ bytes → after ≡ between ++ hour-line days k l → (x : List ℕ) × Lines days first (h + 1) x × (after ≡ before ++ x)
-one-more {days} {first} {h} {k} {l} {bytes} before between after lines e isl p q =
-    (
-      bytes ++ hour-line days h l,
-      more lines (subst (λ n. IsLabel n l) e isl),
-      q ∙ (λ i. p i ++ hour-line days (e i) l) ∙ append-assoc before bytes (hour-line days h l)
-    )
+one-more {days} {first} {h} {k} {l} {bytes} before between after lines e isl p q = (
+  bytes ++ hour-line days h l,
+  more lines (subst (λ n. IsLabel n l) e isl),
+  q ∙ (λ i. p i ++ hour-line days (e i) l) ∙ append-assoc before bytes (hour-line days h l),
+)
 
 pub loop-number-again : need.loop-number-again
 loop-number-again c =

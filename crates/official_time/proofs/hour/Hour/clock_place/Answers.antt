@@ -4,5 +4,4 @@ use Rattle.official_time.proofs.Hours.{goes-on}
 use Rattle.official_time.proofs.hour.Hour.clock_place.Needs as need
 
 pub returns : need.returns
-unfolding clock-place
 returns c = record { value = omega arith; goes-on = goes-on (c .args .self .number) (c .args .self .first) }

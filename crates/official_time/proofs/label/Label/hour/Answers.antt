@@ -15,7 +15,7 @@ returns-in-Some c =
 pub returns-in-rest : need.returns-in-rest
 returns-in-rest c =
     let none : (h : ℕ) → IsLabel h (c .args .self) → ⊥ =
-        λ h l. let e = ap flag (c .in-Some .ensures tt .0 h l) in let v = c .season .ensures .value in let s = l .season in c .if-flag-self .left (omega arith) in
+    λ h l. let e = ap flag (c .in-Some .ensures tt .0 h l) in let v = c .season .ensures .value in let s = l .season in c .if-flag-self .left (omega arith) in
     record { test = sym (no-label (c .args .self) none); value = tt; cases = (refl, none); only = tt }
 
 pub returns-in-rest·2 : need.returns-in-rest·2
