@@ -11,7 +11,7 @@ use Rattle.official_time.specs.declared.label.Label.{Label}
 use Rattle.official_time.specs.declared.date.Weekday.the-variants.{Sunday}
 use Rattle.vocabulary.specs.Ranges.{between}
 use Rattle.official_time.specs.Dates.{on, leap-day, month-days, year-days, is-date, days-of-years, days-of-months, day-of, weekday, LastSunday}
-use Rattle.official_time.specs.Hours.{last-hour, is-hour, last-sunday, change-day, year-of, flag, InSummer, IsLabel, meant, is-label, clock-day, clock-place, GoesOn, ordinary, midnight, spring, autumn, DayLength, last}
+use Rattle.official_time.specs.Hours.{last-hour, is-hour, last-sunday, change-day, change-month, year-of, flag, InSummer, IsLabel, meant, is-label, clock-day, clock-place, GoesOn, ordinary, midnight, spring, autumn, DayLength, last}
 use Rattle.official_time.proofs.Dates.{leap-small, years-closed, real, Real, is-real, is-sunday, weekday-at, year-from, same-date, within}
 
 -- the formula gives the last Sunday
@@ -24,6 +24,10 @@ sunday-there y m low high len = record {
   here = omega arith;
   sunday = sym (weekday-at (last-sunday y m) 1 (omega arith));
 }
+
+-- the change day of a half-year is one
+pub change-sunday : (n : ℕ) → n < 200 → LastSunday (2000 + n / 2) (change-month n) (change-day n)
+change-sunday n l = sunday-there (2000 + n / 2) (change-month n) (omega arith) (omega arith) (cond-both (eqb (n % 2) 0) 3 10 (λ m. month-days (2000 + n / 2) m ≡ 31) (λ _. refl) (λ _. refl))
 
 -- a month has one last Sunday
 pub one-sunday : (y m d e : ℕ) → LastSunday y m d → LastSunday y m e → d ≡ e

@@ -21,9 +21,12 @@ is-hour h = between 1 last-hour h
 abbrev pub last-sunday : ℕ → ℕ → ℕ
 last-sunday y m = let d = day-of (on y m 31) in d - (d + 6) % 7
 
--- the change day of a half-year, counted from 0 at the beginning of 2000: in March, then in October
+-- half-years are counted from 0 at the beginning of 2000; the clock changes in March in the first of a year, in October in the second
+abbrev pub change-month : ℕ → ℕ
+change-month n = cond (eqb (n % 2) 0) 3 10
+
 abbrev pub change-day : ℕ → ℕ
-change-day n = last-sunday (2000 + n / 2) (cond (eqb (n % 2) 0) 3 10)
+change-day n = last-sunday (2000 + n / 2) (change-month n)
 
 -- the year in which an hour ends, by winter time: 1,461 days are four years
 abbrev pub year-of : ℕ → ℕ

@@ -1,7 +1,8 @@
 // The days on which the clock changes.
 ghost use mathlib.Core.Path.{_≡_};
-ghost use Prim.Native.Nat.{_^_, _<_};
-ghost use Rattle.official_time.specs.Hours.{change-day};
+ghost use Prim.Native.Nat.{_+_, _/_, _^_, _<_};
+ghost use Rattle.official_time.specs.Hours.{change-day, change-month};
+ghost use Rattle.official_time.specs.Dates.{LastSunday};
 
 // The last Sundays of March and of October, in turn, from 2000 to 2099.
 const CHANGE_DAYS: [u16; 200] = [
@@ -207,10 +208,12 @@ const CHANGE_DAYS: [u16; 200] = [
     36457,
 ];
 
-// The change day of a half-year, counted from 0 at the beginning of 2000.
+// The change day of a half-year, counted from 0 at the beginning of 2000: a Sunday among the last seven
+// days of March or October.
 pub(crate) fn change_day(half: u32) -> u32
     requires { ⌜ half < 200 ⌝ }
     ensures value { λ r. ⌜ r ≡ change-day half ⌝ }
+    ensures rule { λ r. ⌜ LastSunday (2000 + half / 2) (change-month half) r ⌝ }
     ensures bound { λ r. ⌜ r < 2 ^ 16 ⌝ }
 {
     u32::from(CHANGE_DAYS[half as usize])

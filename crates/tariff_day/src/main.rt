@@ -2,6 +2,12 @@
 //
 // Arguments are holidays as day numbers. Each line of input is answered by the lines of its hours, or
 // by the refusal of a date that is none.
+ghost use mathlib.Core.Path.{_≡_};
+ghost use Prim.Native.Nat.{_≤_};
+ghost use Rattle.std.specs.Of.Vec.{vec-len};
+ghost use Rattle.std.specs.Vec.{made, refused};
+ghost use Rattle.vocabulary.specs.Refusals.{notice, plain};
+
 mod lines;
 mod report;
 
@@ -18,7 +24,9 @@ use vocabulary::refusal::RefusalDisplay;
 use vocabulary::refusal::RefusalError;
 
 // The day of a number in decimal; refused with 16 where no day has it.
-fn holiday(word: &str) -> Result<Day, Refusal> {
+fn holiday(word: &str) -> Result<Day, Refusal>
+    ensures { λ r. ⌜ refused r (λ e. notice e ≡ plain 16) ⌝ }
+{
     let Ok(number) = word.parse::<u32>() else {
         return Err(Refusal::NoSuchDate);
     };
@@ -26,7 +34,9 @@ fn holiday(word: &str) -> Result<Day, Refusal> {
 }
 
 // The holidays among the arguments. One that is no day, or a 17th, is told and left out.
-fn read_holidays(rt: &LibcRuntime) -> Result<Vec<Day>, AnyError> {
+fn read_holidays(rt: &LibcRuntime) -> Result<Vec<Day>, AnyError>
+    ensures { λ r. ⌜ made r (λ days. vec-len days ≤ 16) ⌝ }
+{
     let mut days = Vec::new(rt.alloc());
     for word in env::args(rt)?.skip(1) {
         match holiday(word.as_str()) {

@@ -11,3 +11,47 @@ pub fn worked_figures()
     ensures before_autumn { λ _. ⌜ Labelled 217585 2024 10 27 2 1 ⌝ }
     ensures after_autumn { λ _. ⌜ Labelled 217586 2024 10 27 2 0 ⌝ }
 {}
+
+#[cfg(test)]
+mod tests {
+    use official_time::Hour;
+    use official_time::Label;
+    use std::test::*;
+
+    // One number from all parts of a label and of a place on the clock, and what came before.
+    fn mixed(before: u64, hour: Hour) -> u64 {
+        let Label {
+            date,
+            hour: clock,
+            flag,
+            ..
+        } = hour.label();
+        let parts = [
+            date.year,
+            date.month,
+            date.day,
+            clock,
+            flag,
+            hour.clock_day().number(),
+            hour.clock_place(),
+        ];
+        let mut digest = before;
+        for part in parts {
+            digest = digest.wrapping_mul(1_000_003).wrapping_add(u64::from(part));
+        }
+        digest
+    }
+
+    // The expected number is worked out from the time zone database: oracle/tariff_day.py --digest.
+    #[test]
+    fn all_hours_agree_with_the_official_clock() -> Result<(), Fail> {
+        let mut digest = 0;
+        for number in 1..876_600 {
+            let Some(hour) = Hour::new(number) else {
+                return Err(Fail::new("no such hour"));
+            };
+            digest = mixed(digest, hour);
+        }
+        check_eq(digest, 18_143_043_138_349_695_466)
+    }
+}
