@@ -1,3 +1,4 @@
 pub mod Dates
+pub mod HourKeys
 pub mod Hours
 pub mod Texts

@@ -5,6 +5,7 @@
 mod changes;
 mod date;
 mod hour;
+mod key;
 mod label;
 mod season;
 mod text;
@@ -21,6 +22,7 @@ pub use hour::DayHours;
 pub use hour::DayHoursDebug;
 pub use hour::Hour;
 pub use hour::HourDebug;
+pub use key::HourKey;
 pub use label::Label;
 pub use label::LabelDebug;
 pub use season::Season;

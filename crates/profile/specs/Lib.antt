@@ -1,0 +1,3 @@
+pub mod Weights
+pub mod Rules
+pub mod Profiles
