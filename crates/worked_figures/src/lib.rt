@@ -14,6 +14,7 @@ pub fn worked_figures()
 
 #[cfg(test)]
 mod tests {
+    use official_time::Date;
     use official_time::Hour;
     use official_time::Label;
     use std::test::*;
@@ -53,5 +54,34 @@ mod tests {
             digest = mixed(digest, hour);
         }
         check_eq(digest, 18_143_043_138_349_695_466)
+    }
+
+    fn label(year: u32, month: u32, day: u32, hour: u32, flag: u32) -> Label {
+        Label {
+            date: Date { year, month, day },
+            hour,
+            minute: 0,
+            second: 0,
+            flag,
+        }
+    }
+
+    // The hour that spring skips, flags that are not in force or none, dates and clocks that are none.
+    #[test]
+    fn labels_that_no_hour_has_are_refused() -> Result<(), Fail> {
+        let none = [
+            label(2024, 3, 31, 2, 0),
+            label(2024, 3, 31, 2, 1),
+            label(2024, 3, 31, 3, 0),
+            label(2024, 10, 27, 2, 2),
+            label(2024, 5, 8, 12, 0),
+            label(2024, 5, 8, 24, 1),
+            label(2024, 2, 30, 5, 0),
+            label(2000, 1, 1, 0, 0),
+        ];
+        for written in none {
+            check(written.hour().is_err())?;
+        }
+        check(label(2024, 10, 27, 2, 0).hour().is_ok())
     }
 }
