@@ -16,6 +16,8 @@ import sys
 
 # Names that the toolchain makes for goals and steps begin like this.
 MADE = re.compile(r"^(returns|loop|invariant-loop|invariant-of|invariant_of|decreases|overflow|bounds|slice_bounds|nonzero|ghost)-|-(requires|ensures)(-|$)|·")
+# Names that the library has too, so that a file may mean that one: they stay.
+LIBRARY = {"length-append", "and-true", "get_or-map"}
 # A lemma on one function under another: the outer one, a dash, the inner one.
 JOINED = {
     "length-keys": "length-keys", "length-line": "length-line", "length-names": "length-names",
@@ -64,7 +66,7 @@ def declared():
             if not m:
                 continue
             for name in m.group(1).split():
-                if "-" in name and re.match(r"^\w", name) and not MADE.search(name):
+                if "-" in name and re.match(r"^\w", name) and name not in LIBRARY and not MADE.search(name):
                     found[name].add(path)
     return found
 

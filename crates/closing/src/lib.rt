@@ -2,6 +2,8 @@
 //
 // Nothing here knows books or files: a close goes by the hours of a period, the balances that are held, and what a
 // calendar and a profile mean.
+#![tactic(auto)]
+
 ghost use Rattle.closing.specs.Curves.{ClosingLaw};
 ghost use Rattle.closing.specs.Sharing.{AddsUp, NearlyExact};
 

@@ -3,6 +3,8 @@
 // A file on standard input is answered, for each supply in file order, by a line of its hours, their energy and
 // how many of them each method has, and by a picture of each clock day that has records. A file that is not
 // accepted is answered by the refusal alone.
+#![tactic(auto)]
+
 mod days;
 mod report;
 mod stretch;

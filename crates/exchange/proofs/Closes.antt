@@ -1,6 +1,6 @@
 -- The books after any list of calls: sound, of their terms, and each closed one with the curve of its last granted close.
 use Rattle.std.proofs.Common.{◌≡◌, ℕ, ◌<◌, Bool, true, false, cond, ◌&&◌, eqb, ◌⊎◌, List, [], ◌∷◌, map, length, get_or, set, Some, None, Option, sym, refl, ap, ◌∙◌, subst, inl, inr, arith, length-set, get_or-set_other, get_or-set_same}
-use lib.ListN.{length-map, get_or_map}
+use lib.ListN.{length-map, get_or-map}
 use Rattle.std.proofs.ByRecursion.{All-get_or}
 use Rattle.std.proofs.lemmas.Bool.{and_from, and_left, and_right, both_ways, cases_eq, cond-false, cond-true, eq-eqb, ne_eqb}
 use Rattle.book.proofs.Sounds.{book_law}
@@ -65,11 +65,11 @@ not_closed e = both_ways false refl e
 kept_start : (s : Setting) → Fits s → (closed : ℕ → List Record) → Kept s (map unused s.terms) closed
 kept_start s fit closed = record {
   long = length-map s.terms unused;
-  terms = λ k. ap (λ (b : Book). b.terms) (get_or_map unused s.terms k nobody);
+  terms = λ k. ap (λ (b : Book). b.terms) (get_or-map unused s.terms k nobody);
   sound = λ k l.
-      subst Sound (sym (get_or_map unused s.terms k nobody))
+      subst Sound (sym (get_or-map unused s.terms k nobody))
       (book_law.begins (terms_at s k) (All-get_or (λ t. is_book t ≡ true) s.terms k nobody (let e = length-map s.terms unused in omega arith) fit.begun));
-  holds = λ k e. absurd (not_closed (ap (λ (b : Book). is_closed b.phase) (sym (get_or_map unused s.terms k nobody)) ∙ e));
+  holds = λ k e. absurd (not_closed (ap (λ (b : Book). is_closed b.phase) (sym (get_or-map unused s.terms k nobody)) ∙ e));
 }
 
 its_alike : (t : Terms) (c c' : List Record) (b : Book) → c ≡ c' → ItsCurve t c b → ItsCurve t c' b

@@ -1,5 +1,5 @@
 -- Whole curves: which records they have, and the keys under which they stand.
-use Rattle.std.proofs.Common.{◌≡◌, ℕ, zero, suc, ◌+◌, ◌<◌, Bool, true, false, cond, ◌||◌, eqb, List, [], ◌∷◌, ◌++◌, length, get_or, Some, None, sym, refl, ap, ◌∙◌, ap₂, arith, length_append}
+use Rattle.std.proofs.Common.{◌≡◌, ℕ, zero, suc, ◌+◌, ◌<◌, Bool, true, false, cond, ◌||◌, eqb, List, [], ◌∷◌, ◌++◌, length, get_or, Some, None, sym, refl, ap, ◌∙◌, ap₂, arith, length-append}
 use Rattle.std.proofs.lemmas.Bool.{and_left, both_ways, cond-false, or_left, or_right}
 use Rattle.std.specs.List.{AllByRecursion as All}
 use Rattle.book.specs.BookLaw.{done, more, Whole}
@@ -54,7 +54,7 @@ length-line u h (suc n) = ap suc (length-line u (h + 1) n)
 pub length-keys : (ts : List Terms) → length (keys ts) ≡ sum_of (λ t. t.hours) ts
 length-keys [] = refl
 length-keys (t ∷ ts) =
-    length_append (line t.supply t.first t.hours) (keys ts)
+    length-append (line t.supply t.first t.hours) (keys ts)
     ∙ ap₂ ◌+◌ (length-line t.supply t.first t.hours) (length-keys ts)
 
 has_left : (r : Record) (xs ys : List Record) → has r xs ≡ true → has r (xs ++ ys) ≡ true

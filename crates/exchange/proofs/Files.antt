@@ -1,7 +1,7 @@
 -- The files of an outbox, sealed and open: their names are in turn, and their records are what was published in them.
-use Rattle.std.proofs.Common.{◌≡◌, ℕ, zero, suc, ◌+◌, ◌<◌, ◌≤◌, Bool, true, false, cond, ◌&&◌, ◌||◌, ltb, ◌⊎◌, List, [], ◌∷◌, ◌++◌, map, length, get_or, Some, None, Option, sym, refl, ap, ◌∙◌, subst, ap₂, inl, inr, ⊎_elim, append-nil, arith, length_append}
+use Rattle.std.proofs.Common.{◌≡◌, ℕ, zero, suc, ◌+◌, ◌<◌, ◌≤◌, Bool, true, false, cond, ◌&&◌, ◌||◌, ltb, ◌⊎◌, List, [], ◌∷◌, ◌++◌, map, length, get_or, Some, None, Option, sym, refl, ap, ◌∙◌, subst, ap₂, inl, inr, ⊎_elim, append-nil, arith, length-append}
 use mathlib.Core.Bool.{or_assoc, or-false}
-use lib.ListN.{length-map, get_or-append, get_or_map}
+use lib.ListN.{length-map, get_or-append, get_or-map}
 use lib.Seq.{get_or-append_seam}
 use Rattle.std.proofs.ByRecursion.{All-append, All-get_or}
 use Rattle.std.proofs.lemmas.Bool.{and_left, cases_eq, cases_lt, or_from}
@@ -154,7 +154,7 @@ pub record Posted (s : Setting) (d r : List ℕ) (ns : List Name) (ps : List Pub
   pub turn : (i : ℕ) → in_turn (in_file i ps) ≡ true
 
 length_more : {A : Type 0} (xs : List A) (x : A) → length (xs ++ x ∷ []) ≡ suc (length xs)
-length_more xs x = length_append xs (x ∷ []) ∙ omega arith
+length_more xs x = length-append xs (x ∷ []) ∙ omega arith
 
 pub posted_open : (s : Setting) (d r : List ℕ) (ns : List Name) (ps : List Pub) (n : Name) → Posted s d r ns ps → is_name n ≡ true → Coded d r n → Follows ns n →
     Posted s d r (ns ++ n ∷ []) ps
@@ -209,7 +209,7 @@ pub record Out (s : Setting) (d r : List ℕ) (fs : List SealedFile) (x : Option
   pub open_one : OpenHolds x (in_file (length fs) ps)
 
 pub length-names : (fs : List SealedFile) (x : Option OpenFile) → length (all_names fs x) ≡ length fs + length (open_name x)
-length-names fs x = length_append (names fs) (open_name x) ∙ ap (λ n. n + length (open_name x)) (length-map fs (λ (f : SealedFile). f.name))
+length-names fs x = length-append (names fs) (open_name x) ∙ ap (λ n. n + length (open_name x)) (length-map fs (λ (f : SealedFile). f.name))
 
 -- the open file's name is behind those of the sealed ones
 pub name_last : (fs : List SealedFile) (n : Name) → get_or (names fs ++ n ∷ []) (length fs) no_name ≡ n
@@ -218,7 +218,7 @@ name_last fs n = ap (λ i. get_or (names fs ++ n ∷ []) i no_name) (sym (length
 pub sealed_name : (fs : List SealedFile) (x : Option OpenFile) (i : ℕ) → i < length fs → get_or (all_names fs x) i no_name ≡ (get_or fs i no_file).name
 sealed_name fs x i lt =
     get_or-append (names fs) (open_name x) no_name i (let e = length-map fs (λ (f : SealedFile). f.name) in omega arith)
-    ∙ get_or_map (λ (f : SealedFile). f.name) fs i no_file
+    ∙ get_or-map (λ (f : SealedFile). f.name) fs i no_file
 
 -- an opening
 pub out_open : (s : Setting) (d r : List ℕ) (fs : List SealedFile) (ps : List Pub) (n : Name) (room : ℕ) → Out s d r fs None ps → is_name n ≡ true → Coded d r n → Follows (names fs) n →
@@ -252,7 +252,7 @@ out_publish s d r fs f ps p o i n g some lacks = record {
   sealed = λ j lt. subst (SealedHolds (get_or fs j no_file)) (sym (in_file_skip j p ps (λ e. omega arith))) (o.sealed j lt);
   open_one = (
     flat_more f.curves p.curve ∙ ap (λ (z : List Record). z ++ p.curve) o.open_one.0 ∙ sym here,
-    λ _. subst (λ (z : List Record). 0 < length z) (sym here) (let e = length_append (in_file (length fs) ps) p.curve in omega arith),
+    λ _. subst (λ (z : List Record). 0 < length z) (sym here) (let e = length-append (in_file (length fs) ps) p.curve in omega arith),
   );
 }
   where

@@ -1,5 +1,5 @@
 -- Each sealed file's first offer is granted, and the ledger holds the curves last published in offered files.
-use Rattle.std.proofs.Common.{◌≡◌, ℕ, zero, suc, ◌<◌, ◌≤◌, Bool, true, false, cond, ◌&&◌, ◌||◌, eqb, ◌⊎◌, List, [], ◌∷◌, ◌++◌, length, Some, None, Option, sym, refl, ap, ◌∙◌, inl, inr, arith, length_append}
+use Rattle.std.proofs.Common.{◌≡◌, ℕ, zero, suc, ◌<◌, ◌≤◌, Bool, true, false, cond, ◌&&◌, ◌||◌, eqb, ◌⊎◌, List, [], ◌∷◌, ◌++◌, length, Some, None, Option, sym, refl, ap, ◌∙◌, inl, inr, arith, length-append}
 use mathlib.Core.Bool.{and-false, or-false}
 use lib.ListN.{length-map, get_or-append}
 use Rattle.std.proofs.lemmas.Bool.{both_ways, cond-false, cond-true, le-ltb, lt-ltb}
@@ -53,7 +53,7 @@ seal_stays : (s : Setting) (l : Ledger) (fs : List SealedFile) (x : Option OpenF
 seal_stays s l fs None ps off h = h
 seal_stays s l fs (Some f) ps off h = record {
   upto = h.upto;
-  within = let a = h.within in let b = length_append fs (as_sealed f ∷ []) in omega arith;
+  within = let a = h.within in let b = length-append fs (as_sealed f ∷ []) in omega arith;
   told = h.told;
   last = h.last ∙ last_name_more fs (as_sealed f) h.upto h.within;
   lookup = h.lookup;

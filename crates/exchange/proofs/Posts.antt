@@ -1,6 +1,6 @@
 -- The outbox after any list of calls holds what the calls published.
 use Rattle.std.proofs.Common.{◌≡◌, ℕ, ◌+◌, ◌<◌, Bool, true, false, cond, ◌&&◌, eqb, ltb, List, [], ◌∷◌, ◌++◌, length, is_some, Some, None, Option, sym, refl, ap, ◌∙◌, subst, ap₂, ⊎_elim, append-nil, arith}
-use mathlib.Core.Bool.{and-false, and_true}
+use mathlib.Core.Bool.{and-false, and-true}
 use Rattle.std.proofs.lemmas.Bool.{and_cases, and_from, and_parts, both_ways, eqb-false, le-leb, ltb-false, not-false}
 use Rattle.std.specs.List.{AllByRecursion as All}
 use Rattle.book.proofs.Curves.{begun}
@@ -142,7 +142,7 @@ last_is_newest s all (publish j q n ∷ cs) u = go (was_granted s cs (publish j 
         ≡ newest s (λ p. name_offered (offered s all) (sealed_told s all) 0 p.name) u
         (cond b (record { book = j; name = n; index = length (world s cs).outbox.sealed; curve = last_closed s cs j } ∷ pubs s cs) (pubs s cs))
     go true ih =
-        ap₂ (λ (b : Bool) (z : List Record). cond (b && name_offered (offered s all) (sealed_told s all) 0 n) (last_closed s cs j) z) (and_true (same (terms_at s j).supply u)) ih
+        ap₂ (λ (b : Bool) (z : List Record). cond (b && name_offered (offered s all) (sealed_told s all) 0 n) (last_closed s cs j) z) (and-true (same (terms_at s j).supply u)) ih
     go false ih =
         ap (λ (b : Bool). cond (b && name_offered (offered s all) (sealed_told s all) 0 n) (last_closed s cs j) (last_published s all cs u)) (and-false (same (terms_at s j).supply u)) ∙ ih
 last_is_newest s all (open_file w d r ∷ cs) u = last_is_newest s all cs u

@@ -1,4 +1,6 @@
 // An office and its retailer together: any list of the eleven calls, and what both can rely on after it.
+#![tactic(auto)]
+
 ghost use Rattle.exchange.specs.Law.{ExchangeLaw};
 
 // The law of the exchange: for every setting that fits and every list of calls, granted or refused, whatever calendar and

@@ -1,6 +1,6 @@
 -- A file is read rightly, and in one way only.
 use Rattle.std.proofs.Common.{◌≡◌, ℕ, zero, suc, ◌+◌, ◌-◌, ◌<◌, ◌≤◌, true, false, cond, ◌&&◌, ◌||◌, eqb, ltb, List, [], ◌∷◌, ◌++◌, length, sym, refl, ap, ◌∙◌, subst, ⊎_elim, arith}
-use Rattle.std.proofs.lemmas.List.{append_assoc, append-nil, length_append, length_push, nil_from_length}
+use Rattle.std.proofs.lemmas.List.{append_assoc, append-nil, length-append, length_push, nil_from_length}
 use Rattle.std.proofs.lemmas.Bool.{and_from, and_parts, cond_both, cond-false, cond-true, eq-eqb, eqb-false, eqb-true, lt-ltb, ltb-true, ne_eqb, or_cases, or_right}
 use Rattle.f5d.specs.Records.{can_bear, every_record, FirstBad, Holds, in_turn, Lines, Malformed, none, OutOfTurn, Record}
 use Rattle.f5d.specs.Reading.{bad, FileReading, FileRead, good, holds, LineHere, LineRead, malformed, out_of_turn, read_file, read_line, read_lines, RightFile, RightLine}
@@ -118,7 +118,7 @@ read_along (suc n) m done (r ∷ next) front rest e b t ls some =
     let turn = sym (ap in_turn (sym pushed)) ∙ t in
     let bytes = ap (λ l. l ++ rest) f.split ∙ append_assoc f.line f.more rest in
     let more : 0 < length rest = some (omega arith) in
-    let long = length_append f.more rest in
+    let long = length-append f.more rest in
     ap (λ b. after_line n done (read_line b)) bytes
     ∙ ap (after_line n done) (read_back r f.line (f.more ++ rest) p.0 f.is_line)
     ∙ cond-true _ _ _ (in_turn_front (done ++ r ∷ []) next turn)
@@ -156,7 +156,7 @@ few_lines : (rs : List Record) (front rest : List ℕ) → every_record can_bear
 few_lines rs front rest b ls =
     let long = lines_long rs front b ls in
     let least = lines_least rs b in
-    let both = length_append front rest in
+    let both = length-append front rest in
     omega arith
 
 pub holds_read : (bytes : List ℕ) (rs : List Record) → Holds bytes rs → read_file bytes ≡ holds rs
@@ -197,7 +197,7 @@ out_of_turn_read bytes k h =
     let all = ap length whole in
     let long = line_long h.next f.line own f.is_line in
     let least = line_least h.next own in
-    let both = length_append f.line rest in
+    let both = length-append f.line rest in
     let m = length bytes - length h.good in
     ap (read_lines (suc (length bytes)) []) whole
     ∙ read_along (suc (length bytes)) (suc m) [] h.good p.front (f.line ++ rest) (omega arith) b.0 h.turn p.before (λ _. omega arith)

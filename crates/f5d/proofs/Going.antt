@@ -1,6 +1,6 @@
 -- Going through lines that are known to be there.
 use Rattle.std.proofs.Common.{◌≡◌, ℕ, zero, suc, ◌+◌, ◌<◌, ◌≤◌, Bool, true, false, not, ◌&&◌, eqb, ltb, List, [], ◌∷◌, ◌++◌, length, take, drop, sym, refl, ap, ◌∙◌, subst, arith}
-use Rattle.std.proofs.lemmas.List.{drop-drop, length_append, length-drop, nil_from_length, take-append-drop, take_at}
+use Rattle.std.proofs.lemmas.List.{drop-drop, length-append, length-drop, nil_from_length, take-append-drop, take_at}
 use Rattle.std.proofs.lemmas.Bool.{and_from, and_parts, lt-ltb, or_right}
 use Rattle.vocabulary.specs.Refusals.{letter}
 use Rattle.vocabulary.specs.declared.refusal.Field.{Field}
@@ -149,7 +149,7 @@ module _ (bytes : List ℕ) (at : ℕ) (done : List Record) (p : Passed bytes at
       -- the line is the next n bytes
       whole : h.line ≡ take n (drop at bytes)
       whole =
-          let long = ap length h.split ∙ length_append h.line (drop n (drop at bytes)) in
+          let long = ap length h.split ∙ length-append h.line (drop n (drop at bytes)) in
           let short = length-drop n (drop at bytes) in
           sym (ap (take n) h.split ∙ take_at h.line (drop n (drop at bytes)) n (omega arith))
 

@@ -1,7 +1,7 @@
 -- A line is read rightly, and in one way only.
 use Rattle.std.proofs.Common.{◌≡◌, ℕ, zero, suc, ◌+◌, ◌-◌, ◌<◌, ◌≤◌, Bool, true, cond, ◌&&◌, ◌||◌, eqb, leb, List, [], ◌∷◌, ◌++◌, length, get_or, take, drop, decimal, sym, refl, ap, ◌∙◌, subst, ⊎_elim, arith}
 use Rattle.std.proofs.lemmas.Fmt.{decimal_nonempty, digits_decimal, decimal_injective}
-use Rattle.std.proofs.lemmas.List.{append_assoc, append_cancel_right, length_append, same_from_push}
+use Rattle.std.proofs.lemmas.List.{append_assoc, append_cancel_right, length-append, same_from_push}
 use Rattle.std.proofs.lemmas.Bool.{and_from, and_parts, both_ways, cases_order, cond_both, eqb-true, le-leb, leb-true, ne_eqb, not_from_false, or_cases}
 use Rattle.std.specs.List.{concat}
 use Rattle.official_time.specs.Dates.{day_of, is_date, on}
@@ -343,7 +343,7 @@ read_right bytes =
 pub line_long : (r : Record) (line : List ℕ) → can_bear r ≡ true → IsLine r line → length line ≡ line_length r
 line_long r line b is =
     let s = eqb-true (length r.supply) 22 (and_parts (eqb (length r.supply) 22) (every code_byte r.supply) (bearable r b).supply).0 in
-    ap length is.written ∙ simp length_append (omega arith)
+    ap length is.written ∙ simp length-append (omega arith)
 
 pub line_least : (r : Record) → can_bear r ≡ true → 56 ≤ line_length r
 line_least r b =
@@ -358,7 +358,7 @@ pub rest_shorter : (bytes : List ℕ) (r : Record) (rest : List ℕ) → LineHer
 rest_shorter bytes r rest h =
     let least = line_least r h.bears in
     let long = line_long r h.line h.bears h.is_line in
-    let both = ap length h.split ∙ length_append h.line rest in
+    let both = ap length h.split ∙ length-append h.line rest in
     omega arith
 
 -- ## One right reading only

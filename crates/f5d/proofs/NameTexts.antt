@@ -2,7 +2,7 @@
 use Rattle.std.proofs.Common.{◌≡◌, ℕ, zero, suc, ◌+◌, ◌-◌, ◌/◌, ◌%◌, ◌<◌, ◌≤◌, Bool, true, false, cond, eqb, ltb, List, [], ◌∷◌, ◌++◌, length, take, drop, IsAscii, decimal, Decides, sym, refl, ap, ◌∙◌, ⊎_elim, append_assoc, arith}
 use Rattle.std.proofs.lemmas.Fmt.{decimal_digit, decimal_step}
 use Rattle.std.proofs.lemmas.Slice.Eq.{slice_eq-Decides}
-use Rattle.std.proofs.lemmas.List.{length_append, length-drop}
+use Rattle.std.proofs.lemmas.List.{length-append, length-drop}
 use Rattle.std.proofs.lemmas.Bool.{and_parts, cases_Bool, eqb-true, ltb-false, ltb-true}
 use Rattle.std.proofs.lemmas.Bool.Decides.{nat_tests, Decides-eqb}
 use Rattle.std.specs.Cmp.Lexicographic.{Matches}
@@ -80,12 +80,12 @@ name_long n p q =
     let r = n.retailer in
     let t = date_digits n.date in
     let v = decimal n.version in
-    let behind-date = length_append t (46 ∷ v) in
-    let behind-retailer = length_append r (95 ∷ (t ++ 46 ∷ v)) in
-    let behind-distributor = length_append d (95 ∷ (r ++ 95 ∷ (t ++ 46 ∷ v))) in
+    let behind-date = length-append t (46 ∷ v) in
+    let behind-retailer = length-append r (95 ∷ (t ++ 46 ∷ v)) in
+    let behind-distributor = length-append d (95 ∷ (r ++ 95 ∷ (t ++ 46 ∷ v))) in
     let four-d = code_long d p in
     let four-r = code_long r q in
-    length_append w (95 ∷ (d ++ 95 ∷ (r ++ 95 ∷ (t ++ 46 ∷ v)))) ∙ omega arith
+    length-append w (95 ∷ (d ++ 95 ∷ (r ++ 95 ∷ (t ++ 46 ∷ v)))) ∙ omega arith
 
 -- ## Codes
 

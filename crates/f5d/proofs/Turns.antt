@@ -1,6 +1,6 @@
 -- Records one after the other: the order of a file with one record more, and the lines of several records.
 use Rattle.std.proofs.Common.{◌≡◌, ℕ, ◌*◌, ◌<◌, ◌≤◌, Bool, true, false, cond, not, ◌&&◌, eqb, ltb, ◌⊎◌, List, [], ◌∷◌, ◌++◌, length, sym, refl, ap, ◌∙◌, subst, inl, inr, ⊎_elim, arith}
-use Rattle.std.proofs.lemmas.List.{append_assoc, append-nil, length_append}
+use Rattle.std.proofs.lemmas.List.{append_assoc, append-nil, length-append}
 use Rattle.std.proofs.lemmas.Bool.{and_from, and_parts, cases_Bool, cond-false, cond-true, eq-eqb, eqb-true, not-true, true≢false}
 use Rattle.f5d.specs.Records.{apart, can_bear, every_record, follows_on, in_turn, IsLine, Lines, lines_length, none, one_more, Record, same}
 use Rattle.f5d.proofs.Lines.{line_least, line_long}
@@ -61,9 +61,9 @@ in_turn_front (r ∷ rs) ss h =
 
 -- ## One record more
 
-and_true : (b : Bool) → (b && true) ≡ b
-and_true true = refl
-and_true false = refl
+and-true : (b : Bool) → (b && true) ≡ b
+and-true true = refl
+and-true false = refl
 
 and_twice : (a b : Bool) → (a && b) ≡ (a && (a && b))
 and_twice true b = refl
@@ -96,7 +96,7 @@ follows_more p r (n ∷ rs) some h = ⊎_elim on over (cases_Bool (same p.supply
           cond-false (same p.supply n.supply) (ltb p.hour n.hour) (apart p.supply ((n ∷ rs) ++ r ∷ [])) e
               ∙ apart_append p.supply (n ∷ rs) (r ∷ [])
               ∙ ap (λ t. t && (not (same p.supply r.supply) && true)) away
-              ∙ and_true (not (same p.supply r.supply)),
+              ∙ and-true (not (same p.supply r.supply)),
         )
 
 -- r is a later hour of the supply of q, or of a supply that no record has
@@ -123,12 +123,12 @@ pub in_turn_more : (front : List Record) (q r : Record) → in_turn (front ++ q 
 in_turn_more [] q r h = go (same q.supply r.supply) (same_turned r.supply q.supply)
   where
     go : (b : Bool) → same r.supply q.supply ≡ b → (cond b (ltb q.hour r.hour) (not b && true) && true) ≡ cond b (ltb q.hour r.hour) (not (same r.supply q.supply) && true)
-    go true e = and_true (ltb q.hour r.hour)
+    go true e = and-true (ltb q.hour r.hour)
     go false e = ap (λ b. not b && true) (sym e)
 in_turn_more (p ∷ front) q r h =
     let rs = front ++ q ∷ [] in
     let parts = and_parts (follows_on p rs) (in_turn rs) h in
-    let some : 0 < length rs = omega (arith, length_append front (q ∷ [])) in
+    let some : 0 < length rs = omega (arith, length-append front (q ∷ [])) in
     in_turn_before p q r rs
     (λ away. not-true _ (and_parts _ true (and_parts (apart p.supply front) _ (sym (apart_append p.supply front (q ∷ [])) ∙ away)).1).0)
     (in_turn_more front q r parts.1)
@@ -183,7 +183,7 @@ lines_long (r ∷ rs) bytes b m =
     let f = first_line m in
     let l = line_long r f.line p.0 f.is_line in
     let ls = lines_long rs f.more p.1 f.lines in
-    ap length f.split ∙ length_append f.line f.more ∙ omega arith
+    ap length f.split ∙ length-append f.line f.more ∙ omega arith
 
 pub lines_least : (rs : List Record) → every_record can_bear rs ≡ true → 56 * length rs ≤ lines_length rs
 lines_least [] b = omega arith

@@ -2,7 +2,7 @@
 use Rattle.std.proofs.Common.{◌≡◌, ℕ, zero, suc, ◌+◌, ◌-◌, ◌*◌, ◌/◌, ◌%◌, ◌^◌, ◌<◌, ◌≤◌, List, [], ◌∷◌, ◌++◌, length, get_or, take, drop, set, decimal, sym, refl, ap, ◌∙◌, append_assoc, arith}
 use native.Mathlib.Numerals.{unary_clauses}
 use borrow.Rule.Slice.PartMut.{put_mid}
-use Rattle.std.proofs.lemmas.List.{take_at, drop_at, drop-drop, drop-set, length_append}
+use Rattle.std.proofs.lemmas.List.{take_at, drop_at, drop-drop, drop-set, length-append}
 use Rattle.std.proofs.lemmas.Fmt.{decimal_step, decimal_digit}
 use Rattle.std.specs.List.{concat}
 use Rattle.f5d.specs.Buffers.{over}
@@ -13,7 +13,7 @@ pub put_behind : (done text was now : List ℕ) (at k : ℕ) → length done ≡
 put_behind done text was now at k d t e =
     let front : take at now ≡ done = ap (take at) e ∙ take_at done (drop (length done) was) at d in
     let tail : drop k (drop at now) ≡ drop (length (done ++ text)) was
-    = ap (λ l. drop k (drop at l)) e ∙ ap (drop k) (drop_at done (drop (length done) was) at d) ∙ drop-drop k (length done) was ∙ ap (λ m. drop m was) (omega (arith, length_append done text)) in
+    = ap (λ l. drop k (drop at l)) e ∙ ap (drop k) (drop_at done (drop (length done) was) at d) ∙ drop-drop k (length done) was ∙ ap (λ m. drop m was) (omega (arith, length-append done text)) in
     (λ i. front i ++ (text ++ tail i)) ∙ sym (append_assoc done text (drop (length (done ++ text)) was))
 
 -- a digit more before those that are written, and the last of them

@@ -4,6 +4,8 @@
 // (`HourRecord::read_line`). A whole file is checked by `check_file`, and its records are then handed out by
 // `Records`; neither allocates. `FileName` is the name of such a file. Whoever wants to keep the records in order
 // takes them into a sorted table under `SupplyHour`.
+#![tactic(auto)]
+
 mod billed;
 mod bytes;
 mod file;

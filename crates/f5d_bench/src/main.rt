@@ -4,6 +4,8 @@
 //
 // checks the file whole, then goes through its records, and writes the microseconds that both took, the number of
 // the records and the sum of their energies. In the gate the time is left out: `f5d_bench untimed < FILE`.
+#![tactic(auto)]
+
 use f5d::{Records, check_file};
 use std::env;
 use std::io::Read;

@@ -4,6 +4,8 @@
 // read; or the refusal. Any other line is a file, where `|` stands for the byte that ends a line of it. Its answer is
 // the count of its records, with the number of each hour and its energy, and whether these records write the file
 // again; or the refusal.
+#![tactic(auto)]
+
 use anyhow::anyhow;
 use f5d::{FileName, Records, check_file};
 use std::alloc::Global;

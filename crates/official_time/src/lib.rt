@@ -2,6 +2,8 @@
 //
 // An hour is a number, and what people write of it is a label: the date and clock of its end, with
 // a flag for summer. `Hour::label` and `Label::hour` go from one to the other.
+#![tactic(auto)]
+
 mod changes;
 mod date;
 mod hour;

@@ -1,5 +1,5 @@
 -- Opening, publishing and sealing leave names in turn and files that hold what was published in them.
-use Rattle.std.proofs.Common.{◌≡◌, ℕ, suc, ◌+◌, ◌<◌, Bool, true, false, cond, ltb, ◌⊎◌, List, [], ◌∷◌, ◌++◌, length, Some, None, Option, sym, refl, ap, ◌∙◌, inl, inr, append_assoc, append-nil, arith, length_append}
+use Rattle.std.proofs.Common.{◌≡◌, ℕ, suc, ◌+◌, ◌<◌, Bool, true, false, cond, ltb, ◌⊎◌, List, [], ◌∷◌, ◌++◌, length, Some, None, Option, sym, refl, ap, ◌∙◌, inl, inr, append_assoc, append-nil, arith, length-append}
 use Rattle.std.proofs.lemmas.Bool.{and_from, le-leb, ltb-false, ltb-true, not-false}
 use Rattle.book.specs.BookLaw.{Whole}
 use Rattle.book.specs.Books.{Book, Slip, some_of}
@@ -66,7 +66,7 @@ fine_more f u h n c fine w b lacks = record {
   turn = ap in_turn (flat_more f.curves c) ∙ turn_more (records_of f) w lacks fine.turn;
   filled = λ _.
       let a = ap length (flat_more f.curves c) in
-      let d = length_append (records_of f) c in
+      let d = length-append (records_of f) c in
       let e = whole_length w in
       omega arith;
 }

@@ -1,4 +1,6 @@
 // The distributor's outbox: files of curves are opened, published in and sealed.
+#![tactic(auto)]
+
 ghost use Rattle.outbox.specs.OutboxLaw.{OutboxLaw};
 
 // What an outbox can be relied on for: an opened file's name comes next after the last sealed one's, a publication puts

@@ -2,6 +2,8 @@
 //
 // `Profile` is what a close asks; a table that was published, last year's readings and an even profile
 // answer it, and `Interrupted` stands over any of them.
+#![tactic(auto)]
+
 mod even;
 mod interrupted;
 mod last_year;

@@ -1,7 +1,7 @@
 -- Where a run goes, and what stands there once it is put.
 use Rattle.std.proofs.Common.{◌≡◌, ℕ, zero, suc, ◌+◌, ◌-◌, ◌<◌, ◌≤◌, List, [], ◌∷◌, ◌++◌, length, get_or, take, drop, IfErr, Ok, Err, Result, sym, refl, ap, ◌∙◌, subst, ⊎_elim, append_assoc, arith}
 use Rattle.std.specs.List.{AllByRecursion as All}
-use Rattle.std.proofs.lemmas.List.{drop_all, length_append, length-drop, length-take-le, take_all, take-append-drop, take_rest, take-take, append-nil, drop_at}
+use Rattle.std.proofs.lemmas.List.{drop_all, length-append, length-drop, length-take-le, take_all, take-append-drop, take_rest, take-take, append-nil, drop_at}
 use Rattle.std.proofs.lemmas.Bool.{cases_lt}
 use Rattle.std.proofs.lemmas.Slice.{between_is, take-put_mid}
 use borrow.Rule.Slice.PartMut.{put_mid}
@@ -44,7 +44,7 @@ module _ {K V : Type 0} {before : K → K → Type 0} (order : TotalOrder before
     not_planned NotAscending h = h
     not_planned TooFewPlaces h =
         let k = counted_rest (Err TooFewPlaces) h in
-        (k.0, λ up. omega (arith, k.1, ap length (stays up), length_append (take from xs) (merged order (drop from xs) run), length-take-le from xs within, length-drop from xs))
+        (k.0, λ up. omega (arith, k.1, ap length (stays up), length-append (take from xs) (merged order (drop from xs) run), length-take-le from xs within, length-drop from xs))
 
 -- opening a gap
 module _ {X : Type 0} (xs : List X) (gap : ℕ) where

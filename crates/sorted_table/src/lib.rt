@@ -2,6 +2,8 @@
 // key type with a total order. It allocates nothing and can hold as many entries as it is lent places.
 //
 // Who needs entries in the order of arrival, or takes entries out again, should use something else.
+#![tactic(auto)]
+
 mod key;
 mod merge;
 mod place;

@@ -24,7 +24,7 @@ fn count_new<K: Key, V: Copy, R: Run<K, V>>(
     free: usize,
     mut run: R,
 ) -> Result<usize, RunRefused>
-    ensures { Counted order entries.now free (items run) result }
+    ensures { Counted K.order entries.now free (R.items run) result }
 {
     let Some(mut coming) = run.next() else {
         return Ok(0);
@@ -65,8 +65,8 @@ fn count_new<K: Key, V: Copy, R: Run<K, V>>(
 // the run has keys that the entries lack.
 fn merge<K: Key, V: Copy, R: Run<K, V>>(area: &mut [Place<K, V>], gap: usize, mut run: R)
     requires within { gap ≤ length area.old }
-    requires fits { length (merged order (drop gap area.old) (items run)) ≡ length area.old }
-    ensures { area.new ≡ merged order (drop gap area.old) (items run) }
+    requires fits { length (merged K.order (drop gap area.old) (R.items run)) ≡ length area.old }
+    ensures { area.new ≡ merged K.order (drop gap area.old) (R.items run) }
 {
     let Some(mut coming) = run.next() else {
         return;
@@ -107,8 +107,8 @@ fn open_gap<K: Copy, V: Copy>(area: &mut [Place<K, V>], gap: usize)
 // Puts a run among the entries in front of `new` free places, as many as the run has new keys.
 fn put_among<K: Key, V: Copy, R: Run<K, V>>(area: &mut [Place<K, V>], new: usize, run: R)
     requires within { new ≤ length area.old }
-    requires fits { length (merged order (take (length area.old - new) area.old) (items run)) ≡ length area.old }
-    ensures { area.new ≡ merged order (take (length area.old - new) area.old) (items run) }
+    requires fits { length (merged K.order (take (length area.old - new) area.old) (R.items run)) ≡ length area.old }
+    ensures { area.new ≡ merged K.order (take (length area.old - new) area.old) (R.items run) }
 {
     open_gap(area, new);
     merge(area, new, run);
@@ -121,7 +121,7 @@ fn plan<K: Key, V: Copy, R: Run<K, V>>(
     run: R,
 ) -> Result<(usize, usize), RunRefused>
     requires { used ≤ length places.now }
-    ensures { Planned order (take used places.now) (length places.now - used) (items run) result }
+    ensures { Planned K.order (take used places.now) (length places.now - used) (R.items run) result }
 {
     let mut rest = run;
     let Some(first) = rest.next() else {
@@ -141,7 +141,7 @@ pub(crate) fn put_all<K: Key, V: Copy, R: Run<K, V>>(
 ) -> Result<usize, RunRefused>
     requires { used ≤ length places.old }
     ensures within { IfOk result (λ n. n ≤ length places.old) }
-    ensures put { Rising before (take used places.old) → RunPut before result (length places.old) (take used places.old) (items run) (take (used_after used result) places.new) }
+    ensures put { Rising K.before (take used places.old) → RunPut K.before result (length places.old) (take used places.old) (R.items run) (take (used_after used result) places.new) }
     ensures same { OnErr result (places.new ≡ places.old) }
 {
     let (from, new) = plan(places, used, run)?;

@@ -12,7 +12,7 @@ use std::cmp::Ordering;
 
 // How the entry at a place stands to a key; where no entry is left, the key comes first.
 pub(crate) fn order_at<K: Key, V: Copy>(entries: &[Place<K, V>], at: usize, key: &K) -> Ordering
-    ensures there { at < length entries.now → HoldsAt (λ x. MatchOrdering result (before x.key key.now) (x.key ≡ key.now) (before key.now x.key)) entries.now at }
+    ensures there { at < length entries.now → HoldsAt (λ x. MatchOrdering result (K.before x.key key.now) (x.key ≡ key.now) (K.before key.now x.key)) entries.now at }
     ensures past { length entries.now ≤ at → result ≡ Greater }
 {
     if at < entries.len() {
@@ -26,7 +26,7 @@ pub(crate) fn order_at<K: Key, V: Copy>(entries: &[Place<K, V>], at: usize, key:
 // The number of entries whose keys are before a key, where the entries are in order.
 pub(crate) fn lower_bound<K: Key, V: Copy>(entries: &[Place<K, V>], key: &K) -> usize
     ensures within { result ≤ length entries.now }
-    ensures parted { Rising before entries.now → Parted before entries.now key.now result result }
+    ensures parted { Rising K.before entries.now → Parted K.before entries.now key.now result result }
 {
     let mut low = 0;
     let mut high = entries.len();
@@ -43,7 +43,7 @@ pub(crate) fn lower_bound<K: Key, V: Copy>(entries: &[Place<K, V>], key: &K) -> 
 // The value under a key among entries in order, as `true` and in `into`; `false` where there is none,
 // and `into` is as it was.
 pub fn find_in<K: Key, V: Copy>(entries: &[Place<K, V>], key: &K, into: &mut V) -> bool
-    ensures found { Rising before entries.now → MatchBool result (Has entries.now (entry key.now into.new)) (Lacks entries.now key.now) }
+    ensures found { Rising K.before entries.now → MatchBool result (Has entries.now (entry key.now into.new)) (Lacks entries.now key.now) }
     ensures same { result ≡ false → into.new ≡ into.old }
 {
     let at = lower_bound(entries, key);

@@ -33,7 +33,7 @@ impl<'a, K: Key, V: Copy> SortedTable<'a, K, V> {
     // An empty table. What stands in the places is forgotten.
     pub fn new(places: &'a mut [Place<K, V>]) -> SortedTable<'a, K, V>
         ensures empty { entries_of result ≡ [] }
-        ensures ordered { Rising before (entries_of result) }
+        ensures ordered { Rising K.before (entries_of result) }
         ensures room { room_of result ≡ length places.old }
     {
         SortedTable { places, used: 0 }
@@ -56,7 +56,7 @@ impl<'a, K: Key, V: Copy> SortedTable<'a, K, V> {
     // The value under a key, as `true` and in `into`; `false` where there is none, and `into` is as
     // it was.
     pub fn find(&self, key: &K, into: &mut V) -> bool
-        ensures found { Rising before (entries_of self.now) → MatchBool result (Has (entries_of self.now) (entry key.now into.new)) (Lacks (entries_of self.now) key.now) }
+        ensures found { Rising K.before (entries_of self.now) → MatchBool result (Has (entries_of self.now) (entry key.now into.new)) (Lacks (entries_of self.now) key.now) }
         ensures same { result ≡ false → into.new ≡ into.old }
     {
         find_in(self.entries(), key, into)
@@ -65,8 +65,8 @@ impl<'a, K: Key, V: Copy> SortedTable<'a, K, V> {
     // Puts a value under a key, over the one that is there. Refused with 35, and the table is as it
     // was, where the key is new and every place is taken.
     pub fn put(&mut self, key: K, value: V) -> Result<(), Refusal>
-        ensures put { Rising before (entries_of self.old) → OnePut before result (room_of self.old) (entries_of self.old) key value (entries_of self.new) }
-        ensures ordered { Rising before (entries_of self.old) → Rising before (entries_of self.new) }
+        ensures put { Rising K.before (entries_of self.old) → OnePut K.before result (room_of self.old) (entries_of self.old) key value (entries_of self.new) }
+        ensures ordered { Rising K.before (entries_of self.old) → Rising K.before (entries_of self.new) }
         ensures same { OnErr result (Unchanged self.old self.new) }
         ensures room { room_of self.new ≡ room_of self.old }
     {
@@ -79,8 +79,8 @@ impl<'a, K: Key, V: Copy> SortedTable<'a, K, V> {
     // Puts the entries of an ascending run one by one, at the cost of the run and of the entries
     // behind its first key. Where it is refused the table is as it was.
     pub fn put_run<R: Run<K, V>>(&mut self, run: R) -> Result<(), RunRefused>
-        ensures put { Rising before (entries_of self.old) → RunPut before result (room_of self.old) (entries_of self.old) (items run) (entries_of self.new) }
-        ensures ordered { Rising before (entries_of self.old) → Rising before (entries_of self.new) }
+        ensures put { Rising K.before (entries_of self.old) → RunPut K.before result (room_of self.old) (entries_of self.old) (R.items run) (entries_of self.new) }
+        ensures ordered { Rising K.before (entries_of self.old) → Rising K.before (entries_of self.new) }
         ensures same { OnErr result (Unchanged self.old self.new) }
         ensures room { room_of self.new ≡ room_of self.old }
     {

@@ -4,6 +4,8 @@
 //
 // fills a table with 720 hours of each supply and writes the microseconds that it took, the number of entries and
 // the sum of their energies. In the gate the time is left out: `table_bench WORKLOAD SUPPLIES untimed`.
+#![tactic(auto)]
+
 use anyhow::anyhow;
 use f5d::SupplyHour;
 use official_time::Hour;

@@ -2,6 +2,8 @@
 //
 // `Calendar` is what the rest of the program asks; the calendars of the tariffs 2.0A, 2.0DHA and
 // 2.0TD answer it. Another calendar is another `impl`, and nothing that asks has to know it.
+#![tactic(auto)]
+
 mod calendar;
 mod rates;
 

@@ -2,6 +2,8 @@
 //
 // Arguments are holidays as day numbers. Each line of input is answered by the lines of its hours, or
 // by the refusal of a date that is none.
+#![tactic(auto)]
+
 ghost use Rattle.std.specs.Prelude.{◌≡◌, ◌≤◌, IfOk, IfErr, vec_len};
 ghost use Rattle.vocabulary.specs.Refusals.{notice, plain};
 

@@ -3,6 +3,8 @@
 //
 // Nothing here knows hours, books or files. A crate that only needs a number of its own should not
 // look for it here.
+#![tactic(auto)]
+
 pub mod codes;
 pub mod energy;
 pub mod refusal;

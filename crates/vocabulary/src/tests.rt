@@ -55,7 +55,7 @@ fn refusals_are_told(rt: HostRuntime) -> Result<(), Fail> {
 #[test]
 fn supply_codes_are_22_digits_or_capitals(rt: HostRuntime) -> Result<(), Fail> {
     let code = SupplyCode::new(b"ES0000000000000001TR0F")?;
-    assert_eq!(rt; code.as_bytes(), b"ES0000000000000001TR0F");
+    assert_eq!(rt; code.as_bytes(), b"ES0000000000000001TR0F".as_slice());
     assert!(rt; SupplyCode::new(b"ES0000000000000001TR0").is_err());
     assert!(rt; SupplyCode::new(b"ES0000000000000001TR0FF").is_err());
     assert!(rt; SupplyCode::new(b"ES0000000000000001TR0f").is_err());
@@ -65,7 +65,7 @@ fn supply_codes_are_22_digits_or_capitals(rt: HostRuntime) -> Result<(), Fail> {
 #[test]
 fn participant_codes_are_4_digits_or_capitals(rt: HostRuntime) -> Result<(), Fail> {
     let code = ParticipantCode::new(b"0021")?;
-    assert_eq!(rt; code.as_bytes(), b"0021");
+    assert_eq!(rt; code.as_bytes(), b"0021".as_slice());
     assert!(rt; ParticipantCode::new(b"21").is_err());
     Ok(())
 }
@@ -73,7 +73,7 @@ fn participant_codes_are_4_digits_or_capitals(rt: HostRuntime) -> Result<(), Fai
 #[test]
 fn invoice_codes_are_1_to_26_visible_bytes(rt: HostRuntime) -> Result<(), Fail> {
     let code = InvoiceCode::new(b"F0001")?;
-    assert_eq!(rt; code.as_bytes(), b"F0001");
+    assert_eq!(rt; code.as_bytes(), b"F0001".as_slice());
     assert!(rt; InvoiceCode::new(b"").is_err());
     assert!(rt; InvoiceCode::new(b"F00000000000000000000000001").is_err());
     assert!(rt; InvoiceCode::new(b"F;0001").is_err());

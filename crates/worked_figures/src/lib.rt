@@ -1,6 +1,8 @@
 // Worked figures, each a theorem about the definitions that the other crates' contracts cite.
 //
 // There is nothing to run here. Whoever doubts a definition finds the figures that it gives.
+#![tactic(auto)]
+
 ghost use Rattle.std.specs.Prelude.{[], ◌∷◌, Some, None};
 ghost use Rattle.worked_figures.specs.Closes.{ClosedTo, Computed, NightWritten, RegisterRefused, Registers, Shared};
 ghost use Rattle.worked_figures.specs.Exchanges.{NightAfter, NightExchanged};

@@ -10,10 +10,10 @@ use Rattle.worked_figures.proofs.worked_figures.Goals as goal
 pub returns : goal.returns
 unfolding day_of digits flag is_date label_of lines_text
 returns c = record {
-  before-spring = record { hour = (omega arith, omega arith); date = refl; clock = refl; below_24 = omega arith; full = (refl, refl); season = refl };
-  after-spring = record { hour = (omega arith, omega arith); date = refl; clock = refl; below_24 = omega arith; full = (refl, refl); season = refl };
-  before-autumn = record { hour = (omega arith, omega arith); date = refl; clock = refl; below_24 = omega arith; full = (refl, refl); season = refl };
-  after-autumn = record { hour = (omega arith, omega arith); date = refl; clock = refl; below_24 = omega arith; full = (refl, refl); season = refl };
+  before_spring = record { hour = (omega arith, omega arith); date = refl; clock = refl; below_24 = omega arith; full = (refl, refl); season = refl };
+  after_spring = record { hour = (omega arith, omega arith); date = refl; clock = refl; below_24 = omega arith; full = (refl, refl); season = refl };
+  before_autumn = record { hour = (omega arith, omega arith); date = refl; clock = refl; below_24 = omega arith; full = (refl, refl); season = refl };
+  after_autumn = record { hour = (omega arith, omega arith); date = refl; clock = refl; below_24 = omega arith; full = (refl, refl); season = refl };
   shared = (refl, refl, refl);
   kept = record { answers = refl; energies = refl; how = refl };
   rescaled = record { answers = refl; energies = refl; how = refl };
@@ -21,9 +21,9 @@ returns c = record {
   cut_down = record { answers = refl; energies = refl; how = refl };
   register = record { answers = refl; holds = refl };
   backwards = refl;
-  rounded-down = record { source = refl; value = refl };
-  rounded-up = record { source = refl; value = refl };
+  rounded_down = record { source = refl; value = refl };
+  rounded_up = record { source = refl; value = refl };
   written = refl;
   exchanged = night_exchanged;
-  refused-after = night_after;
+  refused_after = night_after;
 }

@@ -24,8 +24,8 @@ begin-share-requires g c =
       subst (λ x. x ≤ 82500) (sym (kwh_at k some.0 c.args.billed some.1.0 i l _ refl)) (some.1.1 (i + 1)),
     )
 
-pub close-period-requires : goal.close-period-requires
-close-period-requires g c =
+pub close_period-requires : goal.close_period-requires
+close_period-requires g c =
     let k = case_of c.args.first.number c.args.hours.now (g.C.Calendar.timetable c.args.calendar.now) (g.P.Profile.weights c.args.profile.now) in
     let i = c.loop-i.i in
     let few = (g.C.Calendar.timetable c.args.calendar.now).few in
@@ -51,8 +51,8 @@ loop-i-preserved g c =
     let e = c.periods-i-end.ensures in
     let l : i < 3 = omega (arith, c.loop-i-test.true) in
     λ b same.
-    period_more k b (length c.args.hours.now) i c.args.places.now c.loop-i.places c.close-period.new.places (c.loop-i.invariant b same)
-    (c.close-period.ensures b (c.begin-share.ensures k b (i + 1) (figures_at k b c.args.figures c.requires.1.1.0 i l _) same.source (kwh_at k b c.args.billed same i l _ refl)))
+    period_more k b (length c.args.hours.now) i c.args.places.now c.loop-i.places c.close_period.new.places (c.loop-i.invariant b same)
+    (c.close_period.ensures b (c.begin-share.ensures k b (i + 1) (figures_at k b c.args.figures c.requires.1.1.0 i l _) same.source (kwh_at k b c.args.billed same i l _ refl)))
 
 pub returns : goal.returns
 returns g c =

@@ -15,9 +15,9 @@ give-requires g c =
     let p = c.args.period in
     let i = c.loop-i.i in
     let some = c.requires.1.1 in
-    let asked : c.period.result ≡ t.period (first + i) = c.period.ensures ∙ ap t.period c.hour-at-hour.ensures in
-    let weighed = c.weight-at-weight.ensures ∙ ap (λ n. weight_by (w.weight n) (get_or hs i None)) c.hour-at-hour.ensures in
-    (case_of first hs t w, (some.0, (p, (i, due first hs t w p some.0 i c.period.result c.weight-at-weight.result c.loop-i.share (c.loop-i.invariant some.0 some.1).0 c.loop-i-test.true asked c.if-period.true weighed))))
+    let asked : c.period.result ≡ t.period (first + i) = c.period.ensures ∙ ap t.period c.hour_at-hour.ensures in
+    let weighed = c.weight_at-weight.ensures ∙ ap (λ n. weight_by (w.weight n) (get_or hs i None)) c.hour_at-hour.ensures in
+    (case_of first hs t w, (some.0, (p, (i, due first hs t w p some.0 i c.period.result c.weight_at-weight.result c.loop-i.share (c.loop-i.invariant some.0 some.1).0 c.loop-i-test.true asked c.if-period.true weighed))))
 
 pub loop-i-init : goal.loop-i-init
 loop-i-init g c =
@@ -31,13 +31,13 @@ loop-i-preserved g c =
     let w = g.P.Profile.weights c.args.profile.now in
     let p = c.args.period in
     let i = c.loop-i.i in
-    let asked : c.period.result ≡ t.period (first + i) = c.period.ensures ∙ ap t.period c.hour-at-hour.ensures in
+    let asked : c.period.result ≡ t.period (first + i) = c.period.ensures ∙ ap t.period c.hour_at-hour.ensures in
     λ b at.
     let now = c.loop-i.invariant b at in
     elim c.if-period.branch [
       | then-period r ↦
-          let weighed = r.weight-at-weight.ensures ∙ ap (λ n. weight_by (w.weight n) (get_or hs i None)) c.hour-at-hour.ensures in
-          let d = due first hs t w p b i c.period.result r.weight-at-weight.result c.loop-i.share now.0 c.loop-i-test.true asked r.if-period.true weighed in
+          let weighed = r.weight_at-weight.ensures ∙ ap (λ n. weight_by (w.weight n) (get_or hs i None)) c.hour_at-hour.ensures in
+          let d = due first hs t w p b i c.period.result r.weight_at-weight.result c.loop-i.share now.0 c.loop-i-test.true asked r.if-period.true weighed in
           let gave = r.give.ensures (case_of first hs t w) b p i d in
           let room : i < length c.loop-i.places = omega (arith, c.requires.1.0, c.loop-i.auto.places, c.loop-i-test.true) in (
             subst (SharingAt (case_of first hs t w) b p (i + 1)) (sym r.share-is) gave.1,

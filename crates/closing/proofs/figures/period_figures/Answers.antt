@@ -4,8 +4,8 @@ use Rattle.closing.proofs.Figuring.{energies_length, hours_limit, missing_limit,
 use Rattle.closing.proofs.figures.period_figures.Goals as goal
 use Rattle.closing.proofs.figures.period_figures.Goals.{then-period+in-Some, then-period+in-None, else-period}
 
-pub with-read-figures-requires : goal.with-read-figures-requires
-with-read-figures-requires g c =
+pub with_read-figures-requires : goal.with_read-figures-requires
+with_read-figures-requires g c =
     let first = c.args.first.number in
     let hs = c.args.hours.now in
     let t = g.C.Calendar.timetable c.args.calendar.now in
@@ -19,8 +19,8 @@ with-read-figures-requires g c =
     let eh = some_limit first hs t w p c.requires i c.in-Some.energy c.in-Some.is in
     (omega (arith, c.requires.few), omega (arith, c.requires.few))
 
-pub with-missing-figures-requires : goal.with-missing-figures-requires
-with-missing-figures-requires g c =
+pub with_missing-figures-requires : goal.with_missing-figures-requires
+with_missing-figures-requires g c =
     let first = c.args.first.number in
     let hs = c.args.hours.now in
     let t = g.C.Calendar.timetable c.args.calendar.now in
@@ -48,10 +48,10 @@ loop-i-preserved g c =
     let w = g.P.Profile.weights c.args.profile.now in
     let p = c.args.period in
     let i = c.loop-i.i in
-    let asked : c.period.result ≡ t.period (first + i) = c.period.ensures ∙ ap t.period c.hour-at-hour.ensures in
+    let asked : c.period.result ≡ t.period (first + i) = c.period.ensures ∙ ap t.period c.hour_at-hour.ensures in
     elim c.if-period.branch [
-      | then-period+in-Some r ↦ r.figures-is ∙ r.with-read-figures.ensures ∙ read_next first hs t w p i c.period.result c.loop-i.figures c.loop-i.invariant asked r.in-Some.energy r.if-period.true r.in-Some.is
-      | then-period+in-None r ↦ r.figures-is ∙ r.with-missing-figures.ensures ∙ ap (λ x. with_missing c.loop-i.figures x) (r.weight.ensures ∙ ap w.weight c.hour-at-hour.ensures)
+      | then-period+in-Some r ↦ r.figures-is ∙ r.with_read-figures.ensures ∙ read_next first hs t w p i c.period.result c.loop-i.figures c.loop-i.invariant asked r.in-Some.energy r.if-period.true r.in-Some.is
+      | then-period+in-None r ↦ r.figures-is ∙ r.with_missing-figures.ensures ∙ ap (λ x. with_missing c.loop-i.figures x) (r.weight.ensures ∙ ap w.weight c.hour_at-hour.ensures)
           ∙ missing_next first hs t w p i c.period.result c.loop-i.figures c.loop-i.invariant asked r.if-period.true r.in-None.is
       | else-period r ↦ r.figures-is ∙ other_next first hs t w p i c.period.result c.loop-i.figures c.loop-i.invariant asked r.if-period.false
     ]

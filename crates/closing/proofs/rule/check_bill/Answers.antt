@@ -20,35 +20,35 @@ second_of k b = some_period k (unreal k b)
 abbrev third_of : Case → Billed → Bool
 third_of k b = some_period k (weightless k b)
 
-pub returns-then-is-met-in-one : goal.returns-then-is-met-in-one
-returns-then-is-met-in-one c =
+pub returns-then-is_met_in_one : goal.returns-then-is_met_in_one
+returns-then-is_met_in_one c =
     λ k b n all same.
     refused_26 (differs k b) (first_of k b) (second_of k b) (third_of k b)
     (agree b.periods k.calendar.periods c.args.billed.periods c.args.periods same.periods n c.if-billed-periods.false)
-    (sym (c.is-met-in-one.ensures k b n all same) ∙ c.if-is-met-in-one.true)
+    (sym (c.is_met_in_one.ensures k b n all same) ∙ c.if-is_met_in_one.true)
 
-pub returns-then-is-met-in-one-2 : goal.returns-then-is-met-in-one-2
-returns-then-is-met-in-one-2 c =
+pub returns-then-is_met_in_one-2 : goal.returns-then-is_met_in_one-2
+returns-then-is_met_in_one-2 c =
     λ k b n all same.
     refused_27 (differs k b) (first_of k b) (second_of k b) (third_of k b)
     (agree b.periods k.calendar.periods c.args.billed.periods c.args.periods same.periods n c.if-billed-periods.false)
-    (sym (c.is-met-in-one.ensures k b n all same) ∙ c.if-is-met-in-one.false)
-    (sym (c.is-met-in-one-2.ensures k b n all same) ∙ c.if-is-met-in-one-2.true)
+    (sym (c.is_met_in_one.ensures k b n all same) ∙ c.if-is_met_in_one.false)
+    (sym (c.is_met_in_one-2.ensures k b n all same) ∙ c.if-is_met_in_one-2.true)
 
-pub returns-then-is-met-in-one-3 : goal.returns-then-is-met-in-one-3
-returns-then-is-met-in-one-3 c =
+pub returns-then-is_met_in_one-3 : goal.returns-then-is_met_in_one-3
+returns-then-is_met_in_one-3 c =
     λ k b n all same.
     refused_15 (differs k b) (first_of k b) (second_of k b) (third_of k b)
     (agree b.periods k.calendar.periods c.args.billed.periods c.args.periods same.periods n c.if-billed-periods.false)
-    (sym (c.is-met-in-one.ensures k b n all same) ∙ c.if-is-met-in-one.false)
-    (sym (c.is-met-in-one-2.ensures k b n all same) ∙ c.if-is-met-in-one-2.false)
-    (sym (c.is-met-in-one-3.ensures k b n all same) ∙ c.if-is-met-in-one-3.true)
+    (sym (c.is_met_in_one.ensures k b n all same) ∙ c.if-is_met_in_one.false)
+    (sym (c.is_met_in_one-2.ensures k b n all same) ∙ c.if-is_met_in_one-2.false)
+    (sym (c.is_met_in_one-3.ensures k b n all same) ∙ c.if-is_met_in_one-3.true)
 
 pub returns : goal.returns
 returns c =
     λ k b n all same.
     all_passed (differs k b) (first_of k b) (second_of k b) (third_of k b)
     (agree b.periods k.calendar.periods c.args.billed.periods c.args.periods same.periods n c.if-billed-periods.false)
-    (sym (c.is-met-in-one.ensures k b n all same) ∙ c.if-is-met-in-one.false)
-    (sym (c.is-met-in-one-2.ensures k b n all same) ∙ c.if-is-met-in-one-2.false)
-    (sym (c.is-met-in-one-3.ensures k b n all same) ∙ c.if-is-met-in-one-3.false)
+    (sym (c.is_met_in_one.ensures k b n all same) ∙ c.if-is_met_in_one.false)
+    (sym (c.is_met_in_one-2.ensures k b n all same) ∙ c.if-is_met_in_one-2.false)
+    (sym (c.is_met_in_one-3.ensures k b n all same) ∙ c.if-is_met_in_one-3.false)

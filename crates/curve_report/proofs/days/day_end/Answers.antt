@@ -15,8 +15,8 @@ returns-then-number c =
     let r = c.index-records-at.result in
     let same : clock_day (get_or all at r).at.hour.number ≡ clock_day r.at.hour.number = ap (λ x. clock_day x.at.hour.number) (sym c.index-records-at.is) in
     record {
-      low-bound = search rules;
-      high-bound = search rules;
+      low_bound = search rules;
+      high_bound = search rules;
       all = c.loop-at.invariant;
       ends = day_left c.args.day.number all c.args.from at c.index-records-at.result c.loop-at-test.true c.index-records-at.is
           (ne_eqb (clock_day c.index-records-at.result.at.hour.number) c.args.day.number (λ e. c.if-number.true (omega (arith, e, c.number.ensures.value, c.clock_day.ensures, c.number-in-loop-at.ensures.value))));
@@ -36,8 +36,8 @@ returns c =
     let all = c.args.records.now in
     let end : c.loop-at.at ≡ length all = search rules in
     record {
-      low-bound = c.requires;
-      high-bound = omega arith;
+      low_bound = c.requires;
+      high_bound = omega arith;
       all = ap (λ n. every_record (on_day c.args.day.number) (map record_of (take (n - (c.args.from + 1)) (drop (c.args.from + 1) all)))) (sym end) ∙ c.loop-at.invariant;
       ends = at_drop_all (λ l. leaves_day c.args.day.number (map record_of l)) all (length all) (omega arith);
     }

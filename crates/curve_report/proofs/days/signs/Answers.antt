@@ -8,8 +8,8 @@ use Rattle.curve_report.specs.Report.{ascii, with_signs}
 use Rattle.curve_report.proofs.Signs.{each_of, every_set}
 use Rattle.curve_report.proofs.days.signs.Goals as goal
 
-pub overflow-sub-place : goal.overflow-sub-place
-overflow-sub-place c =
+pub overflow_sub-place : goal.overflow_sub-place
+overflow_sub-place c =
     let first = c.args.first in
     let r = c.hour-item.result in
     let at = c.number.ensures.value in

@@ -5,8 +5,8 @@ use Rattle.curve_report.specs.Report.{ascii}
 use Rattle.vocabulary.specs.Codes.{every}
 use Rattle.curve_report.proofs.days.write_day.Goals as goal
 
-pub write-bytes-requires : goal.write-bytes-requires
-write-bytes-requires c = ap (every ascii) c.as-bytes.ensures ∙ every_take ascii c.of-picture.result.count c.of-picture.result.signs c.of-picture.ensures.ascii
+pub write_bytes-requires : goal.write_bytes-requires
+write_bytes-requires c = ap (every ascii) c.as_bytes.ensures ∙ every_take ascii c.of-picture.result.count c.of-picture.result.signs c.of-picture.ensures.ascii
 
 pub returns : goal.returns
 unfolding lib.Utf8.encode
@@ -25,6 +25,6 @@ returns c =
         picture = c.of-picture.ensures.signs;
         written = simp append_assoc;
       },
-      c.in-ok-push.ensures.bytes ∙ (λ i. (c.in-ok-write-bytes.ensures ∙ (λ j. c.in-ok-write.ensures.bytes j ++ c.as-bytes.ensures j)) i ++ 10 ∷ [])
+      c.in_ok-push.ensures.bytes ∙ (λ i. (c.in_ok-write_bytes.ensures ∙ (λ j. c.in_ok-write.ensures.bytes j ++ c.as_bytes.ensures j)) i ++ 10 ∷ [])
           ∙ ap (λ t. t ++ 10 ∷ []) (append_assoc was front hours) ∙ append_assoc was (front ++ hours) (10 ∷ []),
     )

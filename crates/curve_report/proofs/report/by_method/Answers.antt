@@ -12,7 +12,7 @@ loop-record-preserved c =
     let r = c.record-item.result in
     let more : by_method m (map record_of (drop i all)) ≡ cond {A = ℕ} (eqb (record_of r).method m) 1 0 + by_method m (map record_of (drop (i + 1) all))
     = at_drop_more (λ rs. by_method m (map record_of rs)) all i r c.loop-record-test.true ∙ ap (λ x. by_method m (map record_of (x ∷ drop (i + 1) all))) (sym c.record-item.is) in
-    (omega (arith, c.loop-record.invariant.0, c.has-method-count.ensures.value), omega (arith, c.loop-record.invariant.1, c.has-method-count.ensures.bound))
+    (omega (arith, c.loop-record.invariant.0, c.has_method-count.ensures.value), omega (arith, c.loop-record.invariant.1, c.has_method-count.ensures.bound))
 
 pub returns : goal.returns
 returns c =

@@ -12,7 +12,7 @@ loop-byte-preserved c =
     let was = string_bytes c.args.out.now in
     let is = every_at ascii bytes i c.requires c.loop-byte-test.true in
     let b = get_or bytes i 0 in
-    c.in-ok-push.ensures.bytes ∙ (λ j. c.loop-byte.invariant j ++ c.push.ensures.ascii (grind (arith, nat_tests)) j) ∙ append_assoc was (take i bytes) (b ∷ []) ∙ ap (λ x. was ++ x) (sym (take_more bytes i 0 c.loop-byte-test.true))
+    c.in_ok-push.ensures.bytes ∙ (λ j. c.loop-byte.invariant j ++ c.push.ensures.ascii (grind (arith, nat_tests)) j) ∙ append_assoc was (take i bytes) (b ∷ []) ∙ ap (λ x. was ++ x) (sym (take_more bytes i 0 c.loop-byte-test.true))
 
 pub returns : goal.returns
 returns c = c.loop-byte.invariant ∙ ap (λ x. string_bytes c.args.out.now ++ x) (take_all c.loop-byte.byte-index c.args.bytes.now c.loop-byte-test.false)

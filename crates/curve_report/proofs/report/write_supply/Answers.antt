@@ -8,11 +8,11 @@ returns c =
     λ first more e.
     let was = string_bytes c.args.out.now in
     let rs = map record_of c.args.records.now in
-    let days = c.in-ok-write-days.ensures in
+    let days = c.in_ok-write_days.ensures in
     let r = c.index-records-0.result in
     let code : (get_or c.args.records.now 0 r).at.supply.bytes ≡ first.at.supply.bytes = ap (λ l. (get_or l 0 r).at.supply.bytes) e in
     let line = supply_line first.at.supply.bytes rs in (
       line ++ days.0,
       record { days = days.0; pictures = days.1; written = refl },
-      days.2 ∙ ap (λ t. t ++ days.0) (c.in-ok-write-line.ensures ∙ ap (λ s. was ++ supply_line s rs) code) ∙ append_assoc was line days.0,
+      days.2 ∙ ap (λ t. t ++ days.0) (c.in_ok-write_line.ensures ∙ ap (λ s. was ++ supply_line s rs) code) ∙ append_assoc was line days.0,
     )

@@ -10,29 +10,29 @@ use Rattle.curve_report.specs.Report.{of_supply}
 use Rattle.curve_report.proofs.Stretches.{away, first_of, none_of}
 use Rattle.curve_report.proofs.stretch.next_stretch.Goals as goal
 
-pub returns-in-default : goal.returns-in-default
-returns-in-default c = record { stretch = λ rs l b. none_of rs c.args.records.now.rest.now l b c.in-default.ensures.0 c.in-default.ensures.1; shorter = λ e. absurd (clash e) }
+pub returns-in_default : goal.returns-in_default
+returns-in_default c = record { stretch = λ rs l b. none_of rs c.args.records.now.rest.now l b c.in_default.ensures.0 c.in_default.ensures.1; shorter = λ e. absurd (clash e) }
 
 pub loop-next-init : goal.loop-next-init
 loop-next-init c = ([], sym (append-nil _), refl, λ rs l b. (rs, refl, l, b), omega arith)
 
 pub loop-next-smaller : goal.loop-next-smaller
-loop-next-smaller c = line_shortens c.loop-next.records.rest.now c.take-next.new.records.rest.now (record_of c.in-Some-take-next.next) c.in-Some-take-next.ensures.taken.0
+loop-next-smaller c = line_shortens c.loop-next.records.rest.now c.take_next.new.records.rest.now (record_of c.in-Some-take_next.next) c.in-Some-take_next.ensures.taken.0
 
 pub loop-next-preserved : goal.loop-next-preserved
 loop-next-preserved c =
     let inv = c.loop-next.invariant in
-    let q = record_of c.in-Some-take-next.next in
+    let q = record_of c.in-Some-take_next.next in
     let s = c.in-Some.first.at.supply.bytes in
-    let read = c.in-Some-take-next.ensures.taken in
-    let shorter = line_shortens c.loop-next.records.rest.now c.take-next.new.records.rest.now q read.0 in (
+    let read = c.in-Some-take_next.ensures.taken in
+    let shorter = line_shortens c.loop-next.records.rest.now c.take_next.new.records.rest.now q read.0 in (
       inv.0 ++ q ∷ [],
-      ap (map record_of) c.in-ok-push-2.ensures.items ∙ map_push record_of (vec_items c.loop-next.stretch) c.in-Some-take-next.next ∙ ap (λ x. x ++ q ∷ []) inv.1
+      ap (map record_of) c.in_ok-push-2.ensures.items ∙ map_push record_of (vec_items c.loop-next.stretch) c.in-Some-take_next.next ∙ ap (λ x. x ++ q ∷ []) inv.1
           ∙ append_assoc (map record_of (vec_items c.push.new.self)) inv.0 (q ∷ []),
       every_record-append (of_supply s) inv.0 (q ∷ []) ∙ and_from (every_record (of_supply s) inv.0) (of_supply s q && true) inv.2 (and_from (of_supply s q) true read.1 refl),
       λ rs l b.
           let known = inv.3 rs l b in
-          let next = first_of known.0 c.loop-next.records.rest.now known.2 known.3 q c.take-next.new.records.rest.now read.0 in
+          let next = first_of known.0 c.loop-next.records.rest.now known.2 known.3 q c.take_next.new.records.rest.now read.0 in
           (next.0, known.1 ∙ ap (λ x. inv.0 ++ x) next.1 ∙ sym (append_assoc inv.0 (q ∷ []) next.0), next.2, next.3),
       omega (arith, inv.4),
     )
@@ -44,7 +44,7 @@ returns-in-None c =
     let s = q.supply in
     let here = c.loop-next.records.rest.now in
     let left = c.in-None.ensures.left in
-    let one : map record_of (vec_items c.push.new.self) ≡ q ∷ [] = ap (map record_of) (c.in-ok-push.ensures.items ∙ ap (λ x. x ++ c.in-Some.first ∷ []) c.clear.ensures.items) in
+    let one : map record_of (vec_items c.push.new.self) ≡ q ∷ [] = ap (map record_of) (c.in_ok-push.ensures.items ∙ ap (λ x. x ++ c.in-Some.first ∷ []) c.clear.ensures.items) in
     let all : map record_of (vec_items c.loop-next.stretch) ≡ q ∷ inv.0 = inv.1 ∙ ap (λ x. x ++ inv.0) one in
     let short = line_shortens c.args.records.now.rest.now c.next.new.self.rest.now q c.in-Some.ensures in
     record {

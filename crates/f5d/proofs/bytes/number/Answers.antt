@@ -5,8 +5,8 @@ use Rattle.f5d.specs.Reading.{digit, number}
 use Rattle.f5d.proofs.Leading.{every_at, ten_to_next}
 use Rattle.f5d.proofs.bytes.number.Goals as goal
 
-pub overflow-sub-digit : goal.overflow-sub-digit
-overflow-sub-digit c =
+pub overflow_sub-digit : goal.overflow_sub-digit
+overflow_sub-digit c =
     let is = every_at digit c.args.digits.now c.loop-digit.digit-index c.requires.1 c.loop-digit-test.true in
     grind (arith, nat_tests)
 

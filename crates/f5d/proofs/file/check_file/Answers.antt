@@ -41,18 +41,18 @@ loop-at-init c =
       ),
     )
 
-pub returns-in-err-at : goal.returns-in-err-at
-returns-in-err-at c =
+pub returns-in_err-at : goal.returns-in_err-at
+returns-in_err-at c =
     let known = c.loop-at.invariant.2 in
-    let p = err_from_is_err_and c.from-residual.result c.from-residual.ensures.1 in
+    let p = err_from_is_err_and c.from_residual.result c.from_residual.ensures.1 in
     rw (p.1, p.2)
-    (record { cases = c.in-err-at.ensures.read known.0 known.1 known.2 (omega (arith, known.3)); one_reading = file_reading })
+    (record { cases = c.in_err-at.ensures.read known.0 known.1 known.2 (omega (arith, known.3)); one_reading = file_reading })
 
 pub loop-at-preserved : goal.loop-at-preserved
 loop-at-preserved c =
     let known = c.loop-at.invariant.2 in
-    let more = c.in-ok-at.ensures.read known.0 known.1 known.2 (omega (arith, known.3)) in
-    let within = c.in-ok-at.ensures.within in (
+    let more = c.in_ok-at.ensures.read known.0 known.1 known.2 (omega (arith, known.3)) in
+    let within = c.in_ok-at.ensures.within in (
       within.1,
       omega (arith, within.0, c.loop-at.invariant.1),
       (known.0 ++ more.0 ∷ [], more.1, more.2, omega (arith, known.3, length_push known.0 more.0)),

@@ -8,5 +8,5 @@ returns-in-Less c =
     let other = c.args.other.bytes in
     record { above = λ s n l. n (lower_transitive code other s c.in-Less.ensures l); other = lower_irreflexive other }
 
-pub returns-in-default : goal.returns-in-default
-returns-in-default c = record { above = λ s n. n; other = not_lower c.compare-codes.result c.args.code.bytes c.args.other.bytes c.in-default.not-Less c.compare-codes.ensures }
+pub returns-in_default : goal.returns-in_default
+returns-in_default c = record { above = λ s n. n; other = not_lower c.compare_codes.result c.args.code.bytes c.args.other.bytes c.in_default.not-Less c.compare_codes.ensures }

@@ -26,20 +26,20 @@ same_all a b i l m = λ j. same (drop_all i a l j) (drop_all i b m j)
 
 pub loop-at-preserved : goal.loop-at-preserved
 loop-at-preserved c =
-    let a = c.as-bytes-bytes.result.now in
-    let b = c.as-bytes-others.result.now in
+    let a = c.as_bytes-bytes.result.now in
+    let b = c.as_bytes-others.result.now in
     let i = c.loop-at.at in
-    let a-long = long a c.as-bytes-bytes.ensures.formed in
-    let b-long = long b c.as-bytes-others.ensures.formed in
+    let a-long = long a c.as_bytes-bytes.ensures.formed in
+    let b-long = long b c.as_bytes-others.ensures.formed in
     c.loop-at.invariant ∙ ap (λ t. c.loop-at.equal && t) (same_more a b i (omega (arith, c.loop-at-test.true)) (omega (arith, c.loop-at-test.true)))
     ∙ and_next c.loop-at.equal (eqb (get_or a i 0) (get_or b i 0)) (same (drop (i + 1) a) (drop (i + 1) b))
 
 pub returns : goal.returns
 returns c =
-    let a = c.as-bytes-bytes.result.now in
-    let b = c.as-bytes-others.result.now in
+    let a = c.as_bytes-bytes.result.now in
+    let b = c.as_bytes-others.result.now in
     let i = c.loop-at.at in
-    let a-long = long a c.as-bytes-bytes.ensures.formed in
-    let b-long = long b c.as-bytes-others.ensures.formed in
+    let a-long = long a c.as_bytes-bytes.ensures.formed in
+    let b-long = long b c.as_bytes-others.ensures.formed in
     sym (c.loop-at.invariant ∙ ap (λ t. c.loop-at.equal && t) (same_all a b i (omega (arith, c.loop-at-test.false)) (omega (arith, c.loop-at-test.false))) ∙ and_nothing c.loop-at.equal)
-    ∙ (λ j. same (c.as-bytes-bytes.ensures.value j) (c.as-bytes-others.ensures.value j))
+    ∙ (λ j. same (c.as_bytes-bytes.ensures.value j) (c.as_bytes-others.ensures.value j))

@@ -8,26 +8,26 @@ use Rattle.f5d.proofs.FileNames.{Behind, behind_off, behind_on}
 use Rattle.f5d.proofs.Stepping.{tail_from}
 use Rattle.f5d.proofs.name.name_behind.Goals as goal
 
-pub returns-then-not-is-parted : goal.returns-then-not-is-parted
-returns-then-not-is-parted c =
+pub returns-then-not-is_parted : goal.returns-then-not-is_parted
+returns-then-not-is_parted c =
     let b = c.args.bytes.now in
-    behind_off c.args.word b (λ h. clash (sym c.if-not-is-parted.true ∙ c.is-parted.ensures.value ∙ h.parts))
+    behind_off c.args.word b (λ h. clash (sym c.if-not-is_parted.true ∙ c.is_parted.ensures.value ∙ h.parts))
 
-pub returns-then-not-is-dated : goal.returns-then-not-is-dated
-returns-then-not-is-dated c =
+pub returns-then-not-is_dated : goal.returns-then-not-is_dated
+returns-then-not-is_dated c =
     let b = c.args.bytes.now in
-    behind_off c.args.word b (λ h. clash (sym c.if-not-is-dated.true ∙ c.is-dated.ensures ∙ h.digits))
+    behind_off c.args.word b (λ h. clash (sym c.if-not-is_dated.true ∙ c.is_dated.ensures ∙ h.digits))
 
-pub returns-in-default : goal.returns-in-default
-returns-in-default c = behind_off c.args.word c.args.bytes.now (λ h. clash (sym c.in-default.ensures.cases.1 ∙ h.distributor))
+pub returns-in_default : goal.returns-in_default
+returns-in_default c = behind_off c.args.word c.args.bytes.now (λ h. clash (sym c.in_default.ensures.cases.1 ∙ h.distributor))
 
-pub returns-in-default-new : goal.returns-in-default-new
-returns-in-default-new c = behind_off c.args.word c.args.bytes.now (λ h. clash (sym c.in-default-new.ensures.cases.1 ∙ h.retailer))
+pub returns-in_default-new : goal.returns-in_default-new
+returns-in_default-new c = behind_off c.args.word c.args.bytes.now (λ h. clash (sym c.in_default-new.ensures.cases.1 ∙ h.retailer))
 
-pub returns-in-default-version-of : goal.returns-in-default-version-of
-returns-in-default-version-of c =
+pub returns-in_default-version_of : goal.returns-in_default-version_of
+returns-in_default-version_of c =
     let b = c.args.bytes.now in
-    behind_off c.args.word b (λ h. clash (sym c.in-default-version-of.ensures ∙ ap version_written (tail_from b 20) ∙ h.version))
+    behind_off c.args.word b (λ h. clash (sym c.in_default-version_of.ensures ∙ ap version_written (tail_from b 20) ∙ h.version))
 
 pub returns-in-Ok-new-2 : goal.returns-in-Ok-new-2
 returns-in-Ok-new-2 c =
@@ -37,8 +37,8 @@ returns-in-Ok-new-2 c =
     let distributor = c.in-Ok.ensures.cases in
     let retailer = c.in-Ok-new.ensures.cases in
     let there : Behind b = record {
-      parts = sym c.is-parted.ensures.value ∙ c.if-not-is-parted.false;
-      digits = sym c.is-dated.ensures ∙ c.if-not-is-dated.false;
+      parts = sym c.is_parted.ensures.value ∙ c.if-not-is_parted.false;
+      digits = sym c.is_dated.ensures ∙ c.if-not-is_dated.false;
       distributor = distributor.1;
       retailer = retailer.1;
       date = ap is_date (sym c.date_at.ensures) ∙ made.0;

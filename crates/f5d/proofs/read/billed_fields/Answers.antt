@@ -31,8 +31,8 @@ returns-in-Some-unempty c =
       within = tt;
     }
 
-pub returns-in-default-method-field : goal.returns-in-default-method-field
-returns-in-default-method-field c =
+pub returns-in_default-method_field : goal.returns-in_default-method_field
+returns-in_default-method_field c =
     let b = c.args.bytes.now in
     let active = c.in-Some.active in
     let right = c.in-Some.ensures in
@@ -40,43 +40,43 @@ returns-in-default-method-field c =
     let rest = tail b (active.count + 1) in
     record {
       told = λ supply hour.
-          sym (energy_on supply hour b rest active.count wh right.0 right.1 right.2 (tail_from b (active.count + 1)) ∙ c.in-default-unempty.ensures supply hour wh
-          ∙ method_off supply hour wh rest c.in-default-method-field.ensures);
+          sym (energy_on supply hour b rest active.count wh right.0 right.1 right.2 (tail_from b (active.count + 1)) ∙ c.in_default-unempty.ensures supply hour wh
+          ∙ method_off supply hour wh rest c.in_default-method_field.ensures);
       within = tt;
     }
 
-pub returns-in-default-firmness-field : goal.returns-in-default-firmness-field
-returns-in-default-firmness-field c =
+pub returns-in_default-firmness_field : goal.returns-in_default-firmness_field
+returns-in_default-firmness_field c =
     let b = c.args.bytes.now in
     let active = c.in-Some.active in
     let right = c.in-Some.ensures in
     let wh = active.energy.0 in
     let rest = tail b (active.count + 1) in
-    let method = c.in-Some-method-field.ensures in
-    let m = method_number c.in-Some-method-field.method in
+    let method = c.in-Some-method_field.ensures in
+    let m = method_number c.in-Some-method_field.method in
     record {
       told = λ supply hour.
-          sym (energy_on supply hour b rest active.count wh right.0 right.1 right.2 (tail_from b (active.count + 1)) ∙ c.in-default-unempty.ensures supply hour wh
-          ∙ method_on supply hour wh rest m method.0 method.1 ∙ firmness_off supply hour wh rest m c.in-default-firmness-field.ensures);
+          sym (energy_on supply hour b rest active.count wh right.0 right.1 right.2 (tail_from b (active.count + 1)) ∙ c.in_default-unempty.ensures supply hour wh
+          ∙ method_on supply hour wh rest m method.0 method.1 ∙ firmness_off supply hour wh rest m c.in_default-firmness_field.ensures);
       within = tt;
     }
 
-pub returns-in-default-invoice-field : goal.returns-in-default-invoice-field
-returns-in-default-invoice-field c =
+pub returns-in_default-invoice_field : goal.returns-in_default-invoice_field
+returns-in_default-invoice_field c =
     let b = c.args.bytes.now in
     let active = c.in-Some.active in
     let right = c.in-Some.ensures in
     let wh = active.energy.0 in
     let rest = tail b (active.count + 1) in
-    let method = c.in-Some-method-field.ensures in
-    let m = method_number c.in-Some-method-field.method in
-    let firmness = c.in-Some-firmness-field.ensures in
-    let f = firmness_number c.in-Some-firmness-field.firmness in
+    let method = c.in-Some-method_field.ensures in
+    let m = method_number c.in-Some-method_field.method in
+    let firmness = c.in-Some-firmness_field.ensures in
+    let f = firmness_number c.in-Some-firmness_field.firmness in
     record {
       told = λ supply hour.
-          sym (energy_on supply hour b rest active.count wh right.0 right.1 right.2 (tail_from b (active.count + 1)) ∙ c.in-default-unempty.ensures supply hour wh
+          sym (energy_on supply hour b rest active.count wh right.0 right.1 right.2 (tail_from b (active.count + 1)) ∙ c.in_default-unempty.ensures supply hour wh
           ∙ method_on supply hour wh rest m method.0 method.1 ∙ firmness_on supply hour wh rest m f firmness.0 firmness.1
-          ∙ invoice_off supply hour wh rest m f (drop 9 rest) (ap invoice_right (sym (tail_from rest 9)) ∙ c.in-default-invoice-field.ensures));
+          ∙ invoice_off supply hour wh rest m f (drop 9 rest) (ap invoice_right (sym (tail_from rest 9)) ∙ c.in_default-invoice_field.ensures));
       within = tt;
     }
 
@@ -87,17 +87,17 @@ returns c =
     let right = c.in-Some.ensures in
     let wh = active.energy.0 in
     let rest = tail b (active.count + 1) in
-    let method = c.in-Some-method-field.ensures in
-    let m = method_number c.in-Some-method-field.method in
-    let firmness = c.in-Some-firmness-field.ensures in
-    let f = firmness_number c.in-Some-firmness-field.firmness in
-    let end = c.in-Some-invoice-field.end in
-    let ended = c.in-Some-invoice-field.ensures in
+    let method = c.in-Some-method_field.ensures in
+    let m = method_number c.in-Some-method_field.method in
+    let firmness = c.in-Some-firmness_field.ensures in
+    let f = firmness_number c.in-Some-firmness_field.firmness in
+    let end = c.in-Some-invoice_field.end in
+    let ended = c.in-Some-invoice_field.ensures in
     let same = c.of-billed.ensures in
     let n = end.count in
     record {
       told = λ supply hour.
-          sym (energy_on supply hour b rest active.count wh right.0 right.1 right.2 (tail_from b (active.count + 1)) ∙ c.in-default-unempty.ensures supply hour wh
+          sym (energy_on supply hour b rest active.count wh right.0 right.1 right.2 (tail_from b (active.count + 1)) ∙ c.in_default-unempty.ensures supply hour wh
           ∙ method_on supply hour wh rest m method.0 method.1 ∙ firmness_on supply hour wh rest m f firmness.0 firmness.1 ∙ ap (read_invoice supply hour wh m f) (sym (tail_from rest 9))
           ∙ invoice_on supply hour wh rest m f (tail rest 9) (invoice_text end.invoice) n ended.0 ended.1 ended.2
           ∙ (λ i. good (record { supply = supply; hour = hour; wh = (sym same.0 i).0; method = method_number (sym same.1 i); firmness = firmness_number (sym same.2 i); invoice = invoice_text (sym same.3 i) }) (behind b active.count n i)));

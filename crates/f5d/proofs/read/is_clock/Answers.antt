@@ -8,5 +8,5 @@ unended : (b : List ℕ) → ends_at b 16 ≡ false → clock_written b ≡ fals
 unended b =
     and_right (pair b 0 && pair b 2 && eqb (get_or b 4 0) 47 && pair b 5 && eqb (get_or b 7 0) 47 && pair b 8 && eqb (get_or b 10 0) 32 && pair b 11 && eqb (get_or b 13 0) 58 && pair b 14) (ends_at b 16)
 
-pub returns-else-ends-at : goal.returns-else-ends-at
-returns-else-ends-at c = c.if-ends-at.false ∙ sym (unended c.args.bytes.now (sym c.if-ends-at.ensures.value))
+pub returns-else-ends_at : goal.returns-else-ends_at
+returns-else-ends_at c = c.if-ends_at.false ∙ sym (unended c.args.bytes.now (sym c.if-ends_at.ensures.value))

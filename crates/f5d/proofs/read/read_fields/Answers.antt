@@ -12,28 +12,28 @@ use Rattle.f5d.proofs.read.read_fields.Goals as goal
 label_behind : (b : List ℕ) → drop 19 (tail b 23) ≡ tail b 42
 label_behind b = ap (drop 19) (tail_from b 23) ∙ drop-drop 19 23 b ∙ sym (tail_from b 42)
 
-pub returns-in-default : goal.returns-in-default
-returns-in-default c = record { told = supply_off c.args.bytes.now c.in-default.ensures; within = tt }
+pub returns-in_default : goal.returns-in_default
+returns-in_default c = record { told = supply_off c.args.bytes.now c.in_default.ensures; within = tt }
 
-pub returns-in-err-hour : goal.returns-in-err-hour
-returns-in-err-hour c =
+pub returns-in_err-hour : goal.returns-in_err-hour
+returns-in_err-hour c =
     let b = c.args.bytes.now in
     let right = c.in-Some.ensures in
-    let p = err_from_is_err_and c.from-residual.result c.from-residual.ensures.1 in
+    let p = err_from_is_err_and c.from_residual.result c.from_residual.ensures.1 in
     rw (p.1, p.2)
-    (record { told = c.in-err-hour.ensures.told c.in-Some.supply.bytes ∙ (λ i. read_label (right.1 i) (tail_from b 23 i)) ∙ supply_on b right.0; within = tt })
+    (record { told = c.in_err-hour.ensures.told c.in-Some.supply.bytes ∙ (λ i. read_label (right.1 i) (tail_from b 23 i)) ∙ supply_on b right.0; within = tt })
 
-pub returns-in-err-fields : goal.returns-in-err-fields
-returns-in-err-fields c =
+pub returns-in_err-fields : goal.returns-in_err-fields
+returns-in_err-fields c =
     let b = c.args.bytes.now in
     let supply = c.in-Some.supply.bytes in
-    let hour = c.in-ok-hour.hour.number in
+    let hour = c.in_ok-hour.hour.number in
     let right = c.in-Some.ensures in
-    let p = err_from_is_err_and c.from-residual-in-err-fields.result c.from-residual-in-err-fields.ensures.1 in
+    let p = err_from_is_err_and c.from_residual-in_err-fields.result c.from_residual-in_err-fields.ensures.1 in
     rw (p.1, p.2)
     (record {
       told =
-          c.in-err-fields.ensures.told supply hour ∙ ap (read_energy supply hour) (sym (label_behind b)) ∙ c.in-ok-hour.ensures.told supply ∙ (λ i. read_label (right.1 i) (tail_from b 23 i))
+          c.in_err-fields.ensures.told supply hour ∙ ap (read_energy supply hour) (sym (label_behind b)) ∙ c.in_ok-hour.ensures.told supply ∙ (λ i. read_label (right.1 i) (tail_from b 23 i))
           ∙ supply_on b right.0;
       within = tt;
     })
@@ -42,17 +42,17 @@ pub returns : goal.returns
 returns c =
     let b = c.args.bytes.now in
     let supply = c.in-Some.supply.bytes in
-    let hour = c.in-ok-hour.hour.number in
-    let fields = c.in-ok-fields.fields in
+    let hour = c.in_ok-hour.hour.number in
+    let fields = c.in_ok-fields.fields in
     let right = c.in-Some.ensures in
     let rest = ap length (tail_from b 42) ∙ length-drop 42 b in
     record {
       told =
           (λ i. good (billed_record supply hour fields.billed) ((sym (drop-drop fields.length 42 b) ∙ ap (drop fields.length) (sym (tail_from b 42))) i))
-          ∙ c.in-ok-fields.ensures.told supply hour
+          ∙ c.in_ok-fields.ensures.told supply hour
           ∙ ap (read_energy supply hour) (sym (label_behind b))
-          ∙ c.in-ok-hour.ensures.told supply
+          ∙ c.in_ok-hour.ensures.told supply
           ∙ (λ i. read_label (right.1 i) (tail_from b 23 i))
           ∙ supply_on b right.0;
-      within = omega (arith, c.in-ok-fields.ensures.within, c.in-ok-hour.ensures.within, ap length (tail_from b 23) ∙ length-drop 23 b);
+      within = omega (arith, c.in_ok-fields.ensures.within, c.in_ok-hour.ensures.within, ap length (tail_from b 23) ∙ length-drop 23 b);
     }

@@ -5,6 +5,6 @@ use Rattle.official_time.proofs.text.read_parts.Goals as goal
 pub returns : goal.returns
 returns c = (
   search rules,
-  date_back c.args.text.now c.in-ok-century.century c.in-ok-year.year c.in-ok-month.month c.in-ok-day.day (search rules) (search rules) (search rules)
-      c.in-ok-year.ensures.0 c.in-ok-century.ensures.1 c.in-ok-year.ensures.1 c.in-ok-month.ensures.1 c.in-ok-day.ensures.1,
+  date_back c.args.text.now c.in_ok-century.century c.in_ok-year.year c.in_ok-month.month c.in_ok-day.day (search rules) (search rules) (search rules)
+      c.in_ok-year.ensures.0 c.in_ok-century.ensures.1 c.in_ok-year.ensures.1 c.in_ok-month.ensures.1 c.in_ok-day.ensures.1,
 )

@@ -25,7 +25,7 @@ loop-low-preserved g c =
       omega arith,
       λ up. record {
         below = (c.loop-low.invariant.2 up).below;
-        above = back_not_before g.K.Key.order c.args.key.now (drop middle c.args.entries.now) c.order-at.result (rising_drop g.K.Key.order middle c.args.entries.now up) (stands g.K.Key.before c.args.entries.now middle c.args.key.now c.order-at.result c.order-at.ensures.there c.order-at.ensures.past) c.in-default.not-Less;
+        above = back_not_before g.K.Key.order c.args.key.now (drop middle c.args.entries.now) c.order_at.result (rising_drop g.K.Key.order middle c.args.entries.now up) (stands g.K.Key.before c.args.entries.now middle c.args.key.now c.order_at.result c.order_at.ensures.there c.order_at.ensures.past) c.in_default.not-Less;
       },
     )
 

@@ -19,7 +19,7 @@ one_more {days} {first} {h} {k} {l} {bytes} before between after lines e isl p q
 pub loop-number-preserved : goal.loop-number-preserved
 loop-number-preserved c =
     let i = c.loop-number.invariant in
-    let w = c.in-ok-write-hour.ensures in
+    let w = c.in_ok-write_hour.ensures in
     one_more _ _ _ i.1 c.in-Some.ensures.value w.1 i.2 w.2
 
 moved : {days : List Day} {f g m n : ℕ} {bytes : List ℕ} → f ≡ g → m ≡ n → Lines days f m bytes → Lines days g n bytes

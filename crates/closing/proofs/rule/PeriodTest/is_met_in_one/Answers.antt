@@ -5,23 +5,23 @@ use Rattle.closing.proofs.Bills.{few_at}
 use Rattle.closing.proofs.Stops.{met_at, none_found, none_more, one_found}
 use Rattle.closing.proofs.rule.PeriodTest.is_met_in_one.Goals as goal
 
-pub is-met-requires : goal.is-met-requires
-is-met-requires c = few_at c.args.figures c.loop-i.i _ c.requires.0 (omega arith)
+pub is_met-requires : goal.is_met-requires
+is_met-requires c = few_at c.args.figures c.loop-i.i _ c.requires.0 (omega arith)
 
-pub returns-then-is-met : goal.returns-then-is-met
-returns-then-is-met c =
+pub returns-then-is_met : goal.returns-then-is_met
+returns-then-is_met c =
     let i = c.loop-i.i in
     λ k b n all same.
     let l : i < c.args.periods = c.loop-i-test.true in
     one_found (λ j. stops k b c.args.self (j + 1)) k.calendar.periods i (subst (λ m. i < m) (sym n) l)
-    (sym (met_at k b c.args.self c.args.figures c.args.billed all same i (omega arith) _ _ refl) ∙ sym c.is-met.ensures ∙ c.if-is-met.true)
+    (sym (met_at k b c.args.self c.args.figures c.args.billed all same i (omega arith) _ _ refl) ∙ sym c.is_met.ensures ∙ c.if-is_met.true)
 
 pub loop-i-preserved : goal.loop-i-preserved
 loop-i-preserved c =
     let i = c.loop-i.i in
     λ k b n all same.
     none_more (λ j. stops k b c.args.self (j + 1)) i (c.loop-i.invariant k b n all same)
-    (sym (met_at k b c.args.self c.args.figures c.args.billed all same i (omega arith) _ _ refl) ∙ sym c.is-met.ensures ∙ c.if-is-met.false)
+    (sym (met_at k b c.args.self c.args.figures c.args.billed all same i (omega arith) _ _ refl) ∙ sym c.is_met.ensures ∙ c.if-is_met.false)
 
 pub returns : goal.returns
 returns c =

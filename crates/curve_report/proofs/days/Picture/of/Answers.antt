@@ -12,8 +12,8 @@ signs-signs-requires c =
     day_within c.args.day.number c.number-first.result c.number-last.result (omega arith)
     (λ h real on. let p = c.of-hours.ensures.all h real on in (omega (arith, p.0), omega (arith, p.1))) c.args.records.now c.requires
 
-pub invariant-of-result : goal.invariant-of-result
-invariant-of-result c =
+pub invariant_of-result : goal.invariant_of-result
+invariant_of-result c =
     let few = day_few c.args.day.number (c.of-hours.result.last.number + 1 - c.of-hours.result.first.number) c.of-hours.ensures.length in
     (omega (arith, c.number-last.ensures.value, c.number-first.ensures.value), tt)
 

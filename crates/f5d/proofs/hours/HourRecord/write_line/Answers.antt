@@ -1,6 +1,6 @@
 use Rattle.std.proofs.Common.{◌≡◌, ◌+◌, [], ◌∷◌, ◌++◌, length, decimal, sym, refl, ap, ◌∙◌, arith, rules}
 use Rattle.official_time.proofs.Hours.{flag_small}
-use Rattle.std.proofs.lemmas.List.{length_append}
+use Rattle.std.proofs.lemmas.List.{length-append}
 use Rattle.std.specs.List.{concat}
 use Rattle.official_time.specs.Texts.{label_text}
 use Rattle.f5d.specs.Buffers.{over}
@@ -9,21 +9,21 @@ use Rattle.f5d.specs.Records.{fields}
 use Rattle.f5d.proofs.Writing.{line_joined}
 use Rattle.f5d.proofs.hours.HourRecord.write_line.Goals as goal
 
-pub label-fields-requires : goal.label-fields-requires
-label-fields-requires c = omega (arith, flag_small c.args.self.now.at.hour.number, c.label.ensures.value.season)
+pub label_fields-requires : goal.label_fields-requires
+label_fields-requires c = omega (arith, flag_small c.args.self.now.at.hour.number, c.label.ensures.value.season)
 
 pub returns : goal.returns
 returns c =
     let was = c.args.into.now in
-    let a = c.as-bytes.result.now in
-    let b = c.label-fields.result in
-    let d = c.as-bytes-2.result.now in
-    let e = c.method-fields.result in
-    let i = c.as-bytes-3.result.now in
-    let ab = length_append a b in
-    let abd = length_append (a ++ b) d in
-    let abde = length_append ((a ++ b) ++ d) e in
-    let abdei = length_append (((a ++ b) ++ d) ++ e) i in
+    let a = c.as_bytes.result.now in
+    let b = c.label_fields.result in
+    let d = c.as_bytes-2.result.now in
+    let e = c.method_fields.result in
+    let i = c.as_bytes-3.result.now in
+    let ab = length-append a b in
+    let abd = length-append (a ++ b) d in
+    let abde = length-append ((a ++ b) ++ d) e in
+    let abdei = length-append (((a ++ b) ++ d) ++ e) i in
     let v1 = c.put-at.ensures.value in
     let v2 = c.put-at-2.ensures.value in
     let v3 = c.put-at-3.ensures.value in
@@ -39,7 +39,7 @@ returns c =
     let r = record_of c.args.self.now in
     let l = c.label.result in
     let on_line : ((((a ++ b) ++ d) ++ e) ++ i) ++ (59 ∷ 10 ∷ []) ≡ concat (fields l r)
-    = (λ j. ((((c.as-bytes.ensures.value j ++ c.label-fields.ensures j) ++ (c.as-bytes-2.ensures ∙ c.of-digits.ensures ∙ ap (λ w. decimal w.0) c.energy.ensures.value) j) ++ c.method-fields.ensures j) ++ (c.as-bytes-3.ensures.value ∙ ap invoice_text c.invoice.ensures) j) ++ (59 ∷ 10 ∷ []))
+    = (λ j. ((((c.as_bytes.ensures.value j ++ c.label_fields.ensures j) ++ (c.as_bytes-2.ensures ∙ c.of-digits.ensures ∙ ap (λ w. decimal w.0) c.energy.ensures.value) j) ++ c.method_fields.ensures j) ++ (c.as_bytes-3.ensures.value ∙ ap invoice_text c.invoice.ensures) j) ++ (59 ∷ 10 ∷ []))
     ∙ line_joined r.supply (label_text l) (decimal r.wh) r.invoice (48 + l.flag) (48 + r.method) (48 + r.firmness) in
-    let long = length_append ((((a ++ b) ++ d) ++ e) ++ i) (59 ∷ 10 ∷ []) in
+    let long = length-append ((((a ++ b) ++ d) ++ e) ++ i) (59 ∷ 10 ∷ []) in
     (concat (fields l r), record { label = l; labels = c.label.ensures.value; written = refl }, v6 ∙ omega arith ∙ ap length on_line, on-end ∙ ap (λ t. over t was) on_line)

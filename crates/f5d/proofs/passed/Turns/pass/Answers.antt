@@ -5,11 +5,11 @@ use Rattle.f5d.proofs.Knowing.{knows_more, last_marked, last_not_above}
 use Rattle.f5d.proofs.Turns.{same_true}
 use Rattle.f5d.proofs.passed.Turns.pass.Goals as goal
 
-pub returns-then-same-code : goal.returns-then-same-code
-returns-then-same-code c =
+pub returns-then-same_code : goal.returns-then-same_code
+returns-then-same_code c =
     λ done q k supply hour.
     let t = c.args.self.now in
-    let same : t.last.supply.bytes ≡ q.supply = same_true t.last.supply.bytes c.args.next.supply.bytes (sym c.same-code.ensures ∙ c.if-same-code.true) ∙ sym supply in
+    let same : t.last.supply.bytes ≡ q.supply = same_true t.last.supply.bytes c.args.next.supply.bytes (sym c.same_code.ensures ∙ c.if-same_code.true) ∙ sym supply in
     knows_more t (record { last = c.args.next; highest = t.highest; marks = t.marks }) done q k supply hour (λ s n. n) (λ l. last_not_above t done k (subst (Lower t.highest.bytes) (sym same) l)) (λ s e. e)
     (ap (marked t.marks.seen) (sym same) ∙ last_marked t done k)
 

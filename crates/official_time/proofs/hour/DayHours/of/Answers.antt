@@ -7,8 +7,8 @@ use Rattle.official_time.proofs.hour.DayHours.of.Goals as goal
 pub returns : goal.returns
 returns c =
     let d = c.args.day in
-    let a = c.first-of.ensures in
-    let b = c.last-of.ensures in
+    let a = c.first_of.ensures in
+    let b = c.last_of.ensures in
     record {
       all = λ h t e. let w = within 1 last_hour h t in let i = in_day d.number d.counted h w.0 w.1 e in (omega arith, omega arith);
       only = λ h low high. let f = first_counts d.number d.counted in of_day d.number d.counted h (omega arith) (omega arith) (omega arith) (omega arith);

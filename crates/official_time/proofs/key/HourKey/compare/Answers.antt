@@ -11,4 +11,4 @@ as_hours a b Equal h = same_hour a b h
 as_hours a b Greater h = h
 
 pub returns : goal.returns
-returns c = as_hours c.args.self.now c.args.other.now c.by-number.result c.by-number.ensures
+returns c = as_hours c.args.self.now c.args.other.now c.by_number.result c.by_number.ensures

@@ -10,11 +10,11 @@ returns-in-Some c =
     let f = label_from c.in-Some.hour.number c.args.self l in
     record { test = sym f.0; value = f.1; cases = l; only = m.0 }
 
-pub returns-in-default : goal.returns-in-default
-returns-in-default c =
+pub returns-in_default : goal.returns-in_default
+returns-in_default c =
     let none : (h : ℕ) → IsLabel h c.args.self → ⊥ =
     λ h l. let e = ap flag (c.in-Some.ensures.0 h l) in let v = c.season.ensures.value in let s = l.season in c.if-flag-self.false (omega arith) in
     record { test = sym (no_label c.args.self none); value = tt; cases = (refl, none); only = tt }
 
-pub returns-in-default·2 : goal.returns-in-default·2
-returns-in-default·2 c = let none = c.in-default.ensures in record { test = sym (no_label c.args.self none); value = tt; cases = (refl, none); only = tt }
+pub returns-in_default·2 : goal.returns-in_default·2
+returns-in_default·2 c = let none = c.in_default.ensures in record { test = sym (no_label c.args.self none); value = tt; cases = (refl, none); only = tt }

@@ -8,4 +8,4 @@ rest : (n : ℕ) → drop (n - 0) (replicate {A = ℕ} 26 0) ≡ replicate (26 -
 rest n = rw sub-zero (drop-replicate n 26 0)
 
 pub returns : goal.returns
-returns c = cc (c.copy-from-slice.ensures.after, rest (length c.args.text.now))
+returns c = cc (c.copy_from_slice.ensures.after, rest (length c.args.text.now))
