@@ -5,7 +5,7 @@ use Rattle.std.proofs.lemmas.Slice.Eq.{slice_eq-Decides}
 use Rattle.std.proofs.lemmas.List.{length-append, length-drop}
 use Rattle.std.proofs.lemmas.Bool.{and_parts, cases_Bool, eqb-true, ltb-false, ltb-true}
 use Rattle.std.proofs.lemmas.Bool.Decides.{nat_tests, Decides-eqb}
-use Rattle.std.specs.Cmp.Lexicographic.{Matches}
+use Rattle.std.specs.Cmp.Lexicographic.{pointwise}
 use Rattle.vocabulary.specs.Codes.{code_byte, every, is_participant}
 use Rattle.f5d.specs.FileNames.{name_of, three_digits}
 use Rattle.f5d.specs.Names.{date_digits, Name, name_text, word_text}
@@ -89,7 +89,7 @@ name_long n p q =
 
 -- ## Codes
 
-pub matched_same : (xs ys : List ℕ) (r : Bool) → Matches (λ a b t. Decides t (a ≡ b)) xs ys r → r ≡ same xs ys
+pub matched_same : (xs ys : List ℕ) (r : Bool) → r ≡ pointwise eqb xs ys → r ≡ same xs ys
 matched_same xs ys r h = by r (slice_eq-Decides Decides-eqb xs ys r h)
   where
     by : (r : Bool) → Decides r (xs ≡ ys) → r ≡ same xs ys

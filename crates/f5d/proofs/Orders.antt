@@ -1,7 +1,8 @@
 -- What comparing texts and hours says of the order of both.
 use Rattle.std.proofs.Common.{◌≡◌, ℕ, ◌<◌, List, [], ◌∷◌, Ordering, Less, Equal, Greater, sym, refl, ◌∙◌, subst, inl, inr, arith}
-use Rattle.std.specs.Cmp.Lexicographic.{Lex}
-use Rattle.std.specs.Ordering.{MatchOrdering, Then}
+use Rattle.std.specs.Cmp.Lexicographic.{slice_cmp}
+use Rattle.std.specs.Ordering.{MatchOrdering, nat_cmp, ordering_then}
+use Rattle.std.proofs.lemmas.Cmp.{ranked}
 use Rattle.official_time.specs.HourKeys.{Earlier, same_hour}
 use Rattle.f5d.specs.Bytes.{Lower}
 use Rattle.f5d.specs.declared.hours.SupplyHour.{SupplyHour}
@@ -16,13 +17,19 @@ same_byte x y xs ys Equal e h = λ i. e i ∷ h i
 same_byte x y xs ys Greater e h = inr (sym e, h)
 
 -- comparing two texts
-pub lex_ranked : (xs ys : List ℕ) (r : Ordering) → Lex (λ a b k. MatchOrdering k (a < b) (a ≡ b) (b < a)) xs ys r → MatchOrdering r (Lower xs ys) (xs ≡ ys) (Lower ys xs)
-lex_ranked [] [] r e = subst (ByBytes [] []) (sym e) refl
-lex_ranked [] (y ∷ ys) r e = subst (ByBytes [] (y ∷ ys)) (sym e) tt
-lex_ranked (x ∷ xs) [] r e = subst (ByBytes (x ∷ xs) []) (sym e) tt
-lex_ranked (x ∷ xs) (y ∷ ys) r (Less, p, q) = subst (ByBytes (x ∷ xs) (y ∷ ys)) (sym q) (inl p)
-lex_ranked (x ∷ xs) (y ∷ ys) r (Equal, p, q) = same_byte x y xs ys r p (lex_ranked xs ys r q)
-lex_ranked (x ∷ xs) (y ∷ ys) r (Greater, p, q) = subst (ByBytes (x ∷ xs) (y ∷ ys)) (sym q) (inl p)
+first_apart : (x y : ℕ) (xs ys : List ℕ) (r q : Ordering) → MatchOrdering r (x < y) (x ≡ y) (y < x) → ByBytes xs ys q → ByBytes (x ∷ xs) (y ∷ ys) (ordering_then r q)
+first_apart x y xs ys Less q p h = inl p
+first_apart x y xs ys Equal q p h = same_byte x y xs ys q p h
+first_apart x y xs ys Greater q p h = inl p
+
+compared : (xs ys : List ℕ) → ByBytes xs ys (slice_cmp nat_cmp xs ys)
+compared [] [] = refl
+compared [] (y ∷ ys) = tt
+compared (x ∷ xs) [] = tt
+compared (x ∷ xs) (y ∷ ys) = first_apart x y xs ys (nat_cmp x y) (slice_cmp nat_cmp xs ys) (ranked x y (nat_cmp x y) refl) (compared xs ys)
+
+pub lex_ranked : (xs ys : List ℕ) (r : Ordering) → r ≡ slice_cmp nat_cmp xs ys → MatchOrdering r (Lower xs ys) (xs ≡ ys) (Lower ys xs)
+lex_ranked xs ys r e = subst (ByBytes xs ys) (sym e) (compared xs ys)
 
 module _ (a b : SupplyHour) where
   -- of one supply, the hours decide

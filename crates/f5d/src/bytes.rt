@@ -36,7 +36,7 @@ impl Class for Visible {
 
 // How many bytes of a class come first, at most `most`.
 pub(crate) fn leading<C: Class>(class: C, most: usize, bytes: &[u8]) -> usize
-    ensures value { result ≡ leading_of (test class) most bytes.now }
+    ensures value { result ≡ leading_of (C.test class) most bytes.now }
     ensures bound { (result ≤ most) × (result ≤ length bytes.now) }
 {
     let end = most.min(bytes.len());

@@ -8,4 +8,4 @@ invariant_of-result c =
     let d = c.args.day in
     let f = first_counts d.number d.counted in
     let a : c.flag_at.result ≡ flag (24 * d.number + 1) = c.flag_at.ensures.value ∙ ap (λ n. flag (24 * n + 1)) c.number.ensures.value in
-    (omega arith, (omega arith, tt))
+    record { first = omega arith; last = omega arith }

@@ -10,5 +10,5 @@ returns c =
     let word : length c.text.result.now ≡ length (word_text n.word) = ap length (c.text.ensures ∙ ap word_text c.word.ensures) in
     let digits : c.digit_count.result ≡ count n.version = c.digit_count.ensures ∙ ap count c.version.ensures in
     let long = name_long (name_of n) n.distributor.formed n.retailer.formed in
-    let last = version_long n.version (omega (arith, c.version.ensures, c.version.type-inv)) in
+    let last = version_long n.version (omega (arith, c.version.ensures, c.version.type_inv)) in
     record { value = omega arith; most = omega (arith, word_short n.word, version_short n.version) }

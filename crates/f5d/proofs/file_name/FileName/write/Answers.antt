@@ -31,7 +31,7 @@ put-requires c =
     let room = name_room c.args.self.now (c.as_bytes.ensures.value ∙ c.text.ensures ∙ ap word_text c.word.ensures) in
     let ten : length c.date_part.result ≡ 10 = ap length c.date_part.ensures in
     let last : length (take (3 - (3 - k)) (drop (3 - k) digits)) ≡ length (decimal c.args.self.now.version)
-    = ap length (version_part v k digits c.version-version.type-inv c.digit_count.ensures c.three_digits-digits.ensures) ∙ ap (λ n. length (decimal n)) c.version-version.ensures in
+    = ap length (version_part v k digits c.version-version.type_inv c.digit_count.ensures c.three_digits-digits.ensures) ∙ ap (λ n. length (decimal n)) c.version-version.ensures in
     omega (
       arith,
       c.if-into-text_length.false,
@@ -76,7 +76,7 @@ returns c =
     let word : w ≡ word_text n.word = c.as_bytes.ensures.value ∙ c.text.ensures ∙ ap word_text c.word.ensures in
     let date : t ≡ 95 ∷ (date_digits n.date ++ 46 ∷ []) = c.date_part.ensures ∙ ap (λ x. 95 ∷ (date_digits x ++ 46 ∷ [])) c.date.ensures.value in
     let version : v ≡ decimal n.version
-    = version_part c.version-version.result k digits c.version-version.type-inv c.digit_count.ensures c.three_digits-digits.ensures ∙ ap decimal c.version-version.ensures in
+    = version_part c.version-version.result k digits c.version-version.type_inv c.digit_count.ensures c.three_digits-digits.ensures ∙ ap decimal c.version-version.ensures in
     let whole : (((w ++ 95 ∷ d) ++ 95 ∷ r) ++ t) ++ v ≡ name_text (name_of n)
     = (λ i. (((word i ++ 95 ∷ (c.distributor.ensures i).bytes) ++ 95 ∷ (c.retailer.ensures i).bytes) ++ date i) ++ version i)
     ∙ name_joined (word_text n.word) n.distributor.bytes n.retailer.bytes (date_digits n.date) (decimal n.version) in

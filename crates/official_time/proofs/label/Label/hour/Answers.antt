@@ -16,5 +16,5 @@ returns-in_default c =
     λ h l. let e = ap flag (c.in-Some.ensures.0 h l) in let v = c.season.ensures.value in let s = l.season in c.if-flag-self.false (omega arith) in
     record { test = sym (no_label c.args.self none); value = tt; cases = (refl, none); only = tt }
 
-pub returns-in_default·2 : goal.returns-in_default·2
-returns-in_default·2 c = let none = c.in_default.ensures in record { test = sym (no_label c.args.self none); value = tt; cases = (refl, none); only = tt }
+pub returns-in_default-2 : goal.returns-in_default-2
+returns-in_default-2 c = let none = c.in_default.ensures in record { test = sym (no_label c.args.self none); value = tt; cases = (refl, none); only = tt }
