@@ -6,6 +6,7 @@ ghost use Rattle.vocabulary.specs.Refusals.{notice, plain};
 ghost use Rattle.tariff.specs.Rules.{period_20a, period_20dha, period_20td};
 
 use official_time::{Date, Day, DayHours, Hour, Label};
+use std::alloc::AllocError;
 use std::fmt;
 use tariff::{Calendar, Calendar20A, Calendar20Dha, Calendar20Td};
 use vocabulary::Refusal;
@@ -51,7 +52,7 @@ impl fmt::Display for HourLine {
 }
 
 // Appends the line of an hour.
-fn write_hour(out: &mut String, td: &Calendar20Td, hour: Hour) -> fmt::Result
+fn write_hour(out: &mut String, td: &Calendar20Td, hour: Hour) -> Result<(), AllocError>
     ensures { OnOk result ((l : Label) × IsLabel hour.number l × (string_bytes out.new ≡ string_bytes out.old ++ hour_line td.now.holidays.days.now hour.number l)) }
 {
     let line = HourLine::of(td, hour);
@@ -59,7 +60,7 @@ fn write_hour(out: &mut String, td: &Calendar20Td, hour: Hour) -> fmt::Result
 }
 
 // Appends the lines of the hours of a clock day.
-fn write_day(out: &mut String, td: &Calendar20Td, day: Day) -> fmt::Result
+fn write_day(out: &mut String, td: &Calendar20Td, day: Day) -> Result<(), AllocError>
     ensures { OnOk result ((bytes : List ℕ) × DayText td.now.holidays.days.now day.number bytes × (string_bytes out.new ≡ string_bytes out.old ++ bytes)) }
 {
     let hours = DayHours::of(day);
@@ -73,7 +74,7 @@ fn write_day(out: &mut String, td: &Calendar20Td, day: Day) -> fmt::Result
 }
 
 // Appends the answer to a line of input.
-pub fn answer(out: &mut String, td: &Calendar20Td, line: &[u8]) -> fmt::Result
+pub fn answer(out: &mut String, td: &Calendar20Td, line: &[u8]) -> Result<(), AllocError>
     ensures { OnOk result ((bytes : List ℕ) × Answers td.now.holidays.days.now line.now bytes × (string_bytes out.new ≡ string_bytes out.old ++ bytes)) }
 {
     match day_of(line) {

@@ -27,7 +27,7 @@ loop-next-preserved c =
     let read = c.in-Some-take_next.ensures.taken in
     let shorter = line_shortens c.loop-next.records.rest.now c.take_next.new.records.rest.now q read.0 in (
       inv.0 ++ q ∷ [],
-      ap (map record_of) c.in_ok-push-2.ensures.items ∙ map_push record_of (vec_items c.loop-next.stretch) c.in-Some-take_next.next ∙ ap (λ x. x ++ q ∷ []) inv.1
+      ap (map record_of) c.in_ok-push-in-Some-take_next.ensures.items ∙ map_push record_of (vec_items c.loop-next.stretch) c.in-Some-take_next.next ∙ ap (λ x. x ++ q ∷ []) inv.1
           ∙ append_assoc (map record_of (vec_items c.push.new.self)) inv.0 (q ∷ []),
       every_record-append (of_supply s) inv.0 (q ∷ []) ∙ and_from (every_record (of_supply s) inv.0) (of_supply s q && true) inv.2 (and_from (of_supply s q) true read.1 refl),
       λ rs l b.

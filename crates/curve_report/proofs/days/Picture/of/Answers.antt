@@ -15,7 +15,7 @@ signs-signs-requires c =
 pub invariant_of-result : goal.invariant_of-result
 invariant_of-result c =
     let few = day_few c.args.day.number (c.of-hours.result.last.number + 1 - c.of-hours.result.first.number) c.of-hours.ensures.length in
-    (omega (arith, c.number-last.ensures.value, c.number-first.ensures.value), tt)
+    record { few = omega (arith, c.number-last.ensures.value, c.number-first.ensures.value) }
 
 pub returns : goal.returns
 returns c =
