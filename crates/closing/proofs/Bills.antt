@@ -1,5 +1,5 @@
 -- What is billed, from the balances as they are held.
-use Rattle.std.proofs.Common.{◌≡◌, ℕ, zero, suc, ◌≤◌, Bool, true, false, cond, not, List, [], ◌∷◌, get_or, is_some, Some, None, Option, unwrap_or, refl, arith}
+use Rattle.std.proofs.Common.{◌≡◌, ℕ, zero, suc, ◌≤◌, Bool, true, false, cond, not, List, [], ◌∷◌, get_or, is_some, Some, None, Option, unwrap_or, refl}
 use Rattle.std.proofs.lemmas.Bool.{false≢true}
 use Rattle.vocabulary.specs.Answers.{Answer, refused}
 use Rattle.vocabulary.specs.Refusals.{plain}

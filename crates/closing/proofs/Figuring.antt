@@ -1,14 +1,12 @@
 -- The figures of a tariff period, hour by hour.
-use Rattle.std.proofs.Common.{◌≡◌, ℕ, zero, suc, ◌+◌, ◌*◌, ◌<◌, ◌≤◌, Bool, true, false, cond, not, ◌&&◌, eqb, List, [], ◌∷◌, length, get_or, is_some, Some, None, Option, unwrap_or, sym, refl, ap, ◌∙◌, subst, add-zero, add-one, arith}
-use Rattle.std.specs.Option.{option_map}
-use Rattle.std.proofs.lemmas.Bool.{cond_both, eq-eqb, ne_eqb}
+use Rattle.std.proofs.Common.{◌≡◌, ℕ, zero, suc, ◌+◌, ◌*◌, ◌≤◌, Bool, true, false, cond, not, ◌&&◌, List, [], ◌∷◌, length, get_or, is_some, Some, None, Option, unwrap_or, sym, refl, ap, ◌∙◌, subst, add-zero, add-one, arith}
+use Rattle.std.proofs.lemmas.Bool.{eq-eqb, ne_eqb}
 use Rattle.profile.specs.Weights.{Light, Weights}
 use Rattle.tariff.specs.Timetables.{Timetable}
 use Rattle.vocabulary.specs.declared.energy.Wh.{Wh}
-use Rattle.closing.specs.Closing.{Case, energy_read, has_weight, lies, missing_in, period_at, was_read, weight}
-use Rattle.closing.specs.Sharing.{below}
+use Rattle.closing.specs.Closing.{Case, energy_read, has_weight, lies, missing_in, weight}
 use Rattle.closing.specs.declared.figures.Figures.{Figures}
-use Rattle.closing.specs.Lent.{case_of, energies, figures_of, figures_to, in_wh, Lent, with_missing, with_read}
+use Rattle.closing.specs.Lent.{case_of, energies, figures_to, in_wh, Lent, with_missing, with_read}
 use Rattle.closing.proofs.Limits.{below_limit}
 
 pub energies_at : (hs : List (Option Wh)) (i : ℕ) → get_or (energies hs) i None ≡ in_wh (get_or hs i None)

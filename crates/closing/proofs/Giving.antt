@@ -1,5 +1,5 @@
 -- Closing one hour of a tariff period.
-use Rattle.std.proofs.Common.{◌≡◌, ℕ, zero, suc, ◌+◌, ◌*◌, ◌<◌, ◌≤◌, Bool, true, false, cond, not, ◌&&◌, eqb, get_or, is_some, Some, None, Option, unwrap_or, sym, refl, ap, ◌∙◌, subst, ap₂, ⊎_elim, add-one, arith}
+use Rattle.std.proofs.Common.{◌≡◌, ℕ, zero, suc, ◌+◌, ◌*◌, ◌<◌, ◌≤◌, Bool, true, false, cond, not, eqb, is_some, Some, None, Option, unwrap_or, sym, refl, ap, ◌∙◌, subst, ap₂, ⊎_elim, add-one, arith}
 use Rattle.std.proofs.lemmas.Bool.{and_from, and_left, and_right, cases_eq, eqb-true, false≢true, not_from_false, not_from_true, true≢false}
 use Rattle.vocabulary.specs.declared.energy.Wh.{Wh}
 use Rattle.closing.specs.Closing.{Billed, Case, closed_hour, count, energy_read, lies, missing_hour, missing_method, period_at, read_hour, rule, was_read, weighed}

@@ -1,12 +1,11 @@
 -- The tests of a close, by the figures of the tariff periods.
-use Rattle.std.proofs.Common.{◌≡◌, ℕ, zero, suc, ◌+◌, ◌-◌, ◌*◌, ◌<◌, ◌≤◌, Bool, true, false, cond, ◌&&◌, eqb, ltb, leb, List, [], ◌∷◌, get_or, sym, refl, ap, ◌∙◌, subst, add-one, arith}
+use Rattle.std.proofs.Common.{◌≡◌, ℕ, zero, suc, ◌+◌, ◌-◌, ◌*◌, ◌<◌, Bool, true, false, cond, ◌&&◌, eqb, ltb, leb, List, [], ◌∷◌, get_or, sym, refl, ap, ◌∙◌, subst, add-one, arith}
 use Rattle.std.proofs.lemmas.Bool.{le-ltb, lt-ltb}
 use Rattle.vocabulary.specs.Answers.{Answer, granted, refused}
 use Rattle.vocabulary.specs.Refusals.{plain}
 use Rattle.vocabulary.specs.declared.energy.KWh.{KWh}
 use Rattle.closing.specs.Billing.{AllFigures, Bills, kwhs, source_number}
 use Rattle.closing.specs.Closing.{Billed, billed_wh, Case, changes, cut_down, fill, fills, keep, missing, read_wh, rescale, rule}
-use Rattle.closing.specs.Closing as rules
 use Rattle.closing.specs.Lent.{figures_of}
 use Rattle.closing.specs.Sharing.{below}
 use Rattle.closing.specs.Testing.{alters, completes, meets, rule_by, rule_of, stops}

@@ -1,10 +1,10 @@
 -- The curve, tariff period after tariff period.
-use Rattle.std.proofs.Common.{◌≡◌, ℕ, ◌+◌, ◌<◌, ◌≤◌, List, [], ◌∷◌, length, get_or, Option, sym, refl, ap, ◌∙◌, subst, ⊎_elim, arith}
+use Rattle.std.proofs.Common.{ℕ, ◌+◌, ◌≤◌, List, length, Option, refl, ap, ◌∙◌, ⊎_elim, arith}
 use Rattle.std.proofs.lemmas.Bool.{cases_eq, eq-eqb, ne_eqb}
 use Rattle.profile.specs.Weights.{Weights}
 use Rattle.tariff.specs.Timetables.{Timetable}
 use Rattle.vocabulary.specs.declared.energy.Wh.{Wh}
-use Rattle.closing.specs.Closing.{Billed, Case, closed_hour, lies, nothing_billed, period_at}
+use Rattle.closing.specs.Closing.{Billed, Case, nothing_billed, period_at}
 use Rattle.closing.specs.Lent.{case_of, energies, figures_of, Lent}
 use Rattle.closing.specs.Periods.{closed_of, ClosedTo, Curve, InLimits, PeriodClosed}
 use Rattle.closing.specs.declared.period.ClosedHour.{ClosedHour}

@@ -1,11 +1,11 @@
 -- Writing the closed hours of a tariff period into their places.
-use Rattle.std.proofs.Common.{◌≡◌, ℕ, suc, ◌+◌, ◌<◌, ◌≤◌, true, false, cond, List, length, get_or, set, is_some, Some, None, Option, unwrap_or, sym, refl, ap, ◌∙◌, subst, ⊎_elim, arith, length-set, get_or-set_other, get_or-set_same}
+use Rattle.std.proofs.Common.{◌≡◌, ℕ, ◌+◌, ◌<◌, true, false, cond, List, length, get_or, set, is_some, Some, None, Option, unwrap_or, sym, refl, ap, ◌∙◌, subst, ⊎_elim, arith, length-set, get_or-set_other, get_or-set_same}
 use Rattle.std.proofs.lemmas.Bool.{cases_eq, eq-eqb, ne_eqb, true≢false}
 use Rattle.profile.specs.Weights.{Weights}
 use Rattle.tariff.specs.Timetables.{Timetable}
 use Rattle.vocabulary.specs.declared.energy.Wh.{Wh}
 use Rattle.closing.specs.Closing.{Billed, Case, closed_hour, lies}
-use Rattle.closing.specs.Lent.{case_of, energies, in_wh}
+use Rattle.closing.specs.Lent.{case_of, in_wh}
 use Rattle.closing.specs.Periods.{closed_of, Due, PeriodClosed, SharingAt, weight_by}
 use Rattle.closing.specs.declared.period.ClosedHour.{ClosedHour}
 use Rattle.closing.specs.declared.period.PeriodShare.{PeriodShare}

@@ -1,5 +1,5 @@
 -- Balances and what is billed, as the program holds them, in the words of the closing rules.
-use Rattle.std.specs.Prelude.{◌≡◌, ℕ, ◌-◌, ◌≤◌, true, false, cond, List, [], ◌∷◌, Some, None, Option, slice_index, slice_index_or}
+use Rattle.std.specs.Prelude.{◌≡◌, ℕ, ◌-◌, ◌≤◌, List, [], ◌∷◌, Some, None, Option, slice_index, slice_index_or}
 use Rattle.std.specs.Option.{option_map}
 use Rattle.vocabulary.specs.declared.energy.KWh.{KWh}
 use Rattle.closing.specs.Closing as rules

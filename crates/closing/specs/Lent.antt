@@ -1,5 +1,5 @@
 -- The case that lent hours make, and what a tariff period of it comes to.
-use Rattle.std.specs.Prelude.{ℕ, ◌+◌, ◌≤◌, Bool, cond, not, ◌&&◌, List, [], ◌∷◌, length, is_some, None, Option, slice_index_or}
+use Rattle.std.specs.Prelude.{ℕ, ◌+◌, ◌≤◌, cond, not, ◌&&◌, List, [], ◌∷◌, length, is_some, None, Option, slice_index_or}
 use Rattle.std.specs.Option.{option_map, unwrap_or}
 use Rattle.profile.specs.Weights.{Weights}
 use Rattle.tariff.specs.Timetables.{Timetable}

@@ -1,5 +1,5 @@
 -- Taking record after record of one supply.
-use Rattle.std.proofs.Common.{◌≡◌, ℕ, ◌+◌, ◌*◌, ◌<◌, ◌≤◌, true, false, cond, ◌⊎◌, List, [], ◌∷◌, ◌++◌, length, sym, refl, ap, ◌∙◌, subst, ⊎_elim, arith}
+use Rattle.std.proofs.Common.{◌≡◌, ℕ, ◌<◌, true, false, cond, ◌⊎◌, List, [], ◌∷◌, length, sym, refl, ap, ◌∙◌, subst, ⊎_elim, arith}
 use Rattle.f5d.specs.Reading.{bad, good, read_line}
 use Rattle.f5d.specs.Records.{can_bear, every_record, Lines, Record}
 use Rattle.f5d.proofs.Going.{bad_not_good, good_one, line_shortens, next_line}

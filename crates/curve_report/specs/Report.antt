@@ -1,5 +1,5 @@
 -- What is reported of a supply: its hours, their energy and methods, and a picture of each clock day.
-use Rattle.std.specs.Prelude.{◌≡◌, ℕ, zero, suc, ◌+◌, ◌-◌, ◌≤◌, Bool, true, false, cond, ◌&&◌, List, [], ◌∷◌, ◌++◌, length, replicate, codes, decimal, ◌==◌, nat_lt, slice_set}
+use Rattle.std.specs.Prelude.{◌≡◌, ℕ, ◌+◌, ◌-◌, ◌≤◌, Bool, true, false, cond, List, [], ◌∷◌, ◌++◌, length, replicate, decimal, ◌==◌, nat_lt, slice_set}
 use Rattle.f5d.specs.Records.{every_record, Record, same}
 use Rattle.official_time.specs.Dates.{day_of, is_date}
 use Rattle.official_time.specs.Hours.{clock_day, is_hour}

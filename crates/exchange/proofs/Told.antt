@@ -10,7 +10,7 @@ use Rattle.f5d.specs.Names.{Name}
 use Rattle.official_time.specs.Hours.{meant}
 use Rattle.outbox.specs.Outboxes.{publish_tests}
 use Rattle.vocabulary.specs.Answers.{first_met, is_granted}
-use Rattle.exchange.specs.Exchange.{answer, book_at, Call, changed, load, nobody, on_book, open_file, publish, seal, Setting, was_granted, world, World}
+use Rattle.exchange.specs.Exchange.{book_at, Call, changed, load, nobody, on_book, open_file, publish, seal, Setting, was_granted, world, World}
 use Rattle.exchange.specs.Told.{energy_of, last_balance, last_reading, names_hour, sets_balance, table, terms_at}
 use Rattle.exchange.proofs.Granted.{book_called}
 

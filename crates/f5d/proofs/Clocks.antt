@@ -1,6 +1,6 @@
 -- The digits of a clock that is written in full.
 use Rattle.std.proofs.lemmas.Bool.{and_parts}
-use Rattle.std.proofs.Common.{◌≡◌, ℕ, Bool, true, ◌&&◌, eqb, List, get_or}
+use Rattle.std.proofs.Common.{◌≡◌, ℕ, true, ◌&&◌, eqb, List, get_or}
 use Rattle.f5d.specs.Reading.{clock_written, ends_at, pair}
 
 -- all six numbers have their two digits

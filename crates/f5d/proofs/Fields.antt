@@ -6,7 +6,7 @@ use Rattle.std.proofs.lemmas.Str.Parse.{FoldsDigits, IsNumeralModel, numerals_by
 use Rattle.std.proofs.lemmas.Bool.{and_from, and_parts, cases_lt, cond_both, cond-false, cond-true, eq-eqb, eqb-false, eqb-true, le-leb, leb-true, ne_eqb, not_from_false, not-true, or_cases, or_left, or_right, true≢false}
 use Rattle.vocabulary.specs.Codes.{code_byte, every, is_invoice, is_supply, visible}
 use Rattle.vocabulary.specs.Ranges.{between}
-use Rattle.official_time.specs.Hours.{flag, is_label, IsLabel}
+use Rattle.official_time.specs.Hours.{is_label, IsLabel}
 use Rattle.official_time.specs.Texts.{four_digits, label_text, two_digits}
 use Rattle.official_time.specs.declared.label.Label.{Label}
 use Rattle.official_time.proofs.Dates.{within}

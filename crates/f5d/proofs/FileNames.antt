@@ -1,5 +1,5 @@
 -- The steps of reading a name, as the program takes them.
-use Rattle.std.proofs.Common.{◌≡◌, ℕ, ◌+◌, ◌-◌, ◌*◌, ◌≤◌, min, Bool, true, cond, not, ◌&&◌, ◌||◌, eqb, leb, List, [], ◌∷◌, ◌++◌, length, get_or, take, drop, Some, None, codes, IsUtf8, Option, sym, refl, ap, ◌∙◌, subst, arith}
+use Rattle.std.proofs.Common.{◌≡◌, ℕ, ◌+◌, ◌*◌, ◌≤◌, min, Bool, true, cond, not, ◌&&◌, ◌||◌, eqb, leb, List, [], ◌∷◌, ◌++◌, length, get_or, take, drop, Some, None, codes, IsUtf8, Option, sym, refl, ap, ◌∙◌, subst, arith}
 use lib.Seq.{take-length}
 use lib.Utf8.{encode}
 use Rattle.std.proofs.lemmas.List.{take-append-drop}

@@ -1,9 +1,9 @@
 -- What comparing texts and hours says of the order of both.
-use Rattle.std.proofs.Common.{◌≡◌, ℕ, ◌<◌, List, [], ◌∷◌, Ordering, Less, Equal, Greater, sym, refl, ◌∙◌, subst, inl, inr, arith}
+use Rattle.std.proofs.Common.{◌≡◌, ℕ, ◌<◌, List, [], ◌∷◌, Ordering, Less, Equal, Greater, sym, refl, subst, inl, inr}
 use Rattle.std.specs.Cmp.Lexicographic.{slice_cmp}
 use Rattle.std.specs.Ordering.{MatchOrdering, nat_cmp, ordering_then}
 use Rattle.std.proofs.lemmas.Cmp.{ranked}
-use Rattle.official_time.specs.HourKeys.{Earlier, same_hour}
+use Rattle.official_time.specs.HourKeys.{Earlier}
 use Rattle.f5d.specs.Bytes.{Lower}
 use Rattle.f5d.specs.declared.hours.SupplyHour.{SupplyHour}
 use Rattle.f5d.specs.SupplyHours.{Before, same_supply}

@@ -1,5 +1,5 @@
 -- The names of files, and which file comes next after which.
-use Rattle.std.specs.Prelude.{◌≡◌, ℕ, suc, ◌+◌, ◌-◌, ◌*◌, Bool, true, false, cond, not, ◌&&◌, ◌||◌, List, [], ◌∷◌, ◌++◌, length, take, drop, Some, None, codes, decimal, Option, ◌==◌, nat_le, nat_lt, slice_index}
+use Rattle.std.specs.Prelude.{◌≡◌, ℕ, ◌+◌, ◌*◌, Bool, true, cond, not, ◌&&◌, ◌||◌, List, ◌∷◌, ◌++◌, length, take, drop, Some, None, codes, decimal, Option, ◌==◌, nat_le, nat_lt, slice_index}
 use Rattle.official_time.specs.Dates.{day_of, is_date, on}
 use Rattle.official_time.specs.Texts.{four_digits, two_digits}
 use Rattle.official_time.specs.declared.date.Date.{Date}

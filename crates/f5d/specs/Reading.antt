@@ -1,5 +1,5 @@
 -- How lines and files are read. What the readings mean, Records says; `Line-reading` and `File-reading` say that they are right.
-use Rattle.std.specs.Prelude.{◌≡◌, ℕ, zero, suc, ◌+◌, ◌-◌, ◌*◌, Bool, true, false, cond, not, ◌&&◌, ◌||◌, List, [], ◌∷◌, ◌++◌, length, take, drop, ◌==◌, nat_le, slice_index}
+use Rattle.std.specs.Prelude.{◌≡◌, ℕ, zero, suc, ◌+◌, ◌-◌, ◌*◌, Bool, true, cond, not, ◌&&◌, ◌||◌, List, [], ◌∷◌, ◌++◌, length, take, drop, ◌==◌, nat_le, slice_index}
 use Rattle.official_time.specs.Dates.{on}
 use Rattle.official_time.specs.Hours.{is_label, meant}
 use Rattle.official_time.specs.declared.label.Label.{Label}

@@ -1,10 +1,10 @@
 -- What the definitions of dates give: bounds, the day after, and that a day has one date.
-use Rattle.std.proofs.Common.{◌≡◌, ℕ, zero, suc, ◌+◌, ◌-◌, ◌*◌, ◌/◌, ◌%◌, ◌<◌, ◌≤◌, Bool, true, false, cond, ◌&&◌, eqb, leb, List, [], ◌∷◌, length, get_or, sym, refl, ap, ◌∙◌, subst, ⊎_elim, arith}
+use Rattle.std.proofs.Common.{◌≡◌, ℕ, zero, suc, ◌+◌, ◌-◌, ◌*◌, ◌/◌, ◌%◌, ◌<◌, ◌≤◌, true, eqb, leb, sym, refl, ap, ◌∙◌, ⊎_elim, arith}
 use native.Mathlib.Decide.{le_ind}
 use native.Mathlib.Nat.{div-add-mod}
 use Rattle.std.proofs.ByRecursion.{All-get_or}
 use Rattle.std.proofs.lemmas.List.{get_or_past}
-use Rattle.std.proofs.lemmas.Bool.{and_parts, and_from, leb-true, le-leb, cases_lt, cond_both, eqb-true, eqb-false, cases_Bool, cases_order}
+use Rattle.std.proofs.lemmas.Bool.{and_parts, and_from, leb-true, le-leb, cases_lt, cond_both, eqb-true, eqb-false, cases_order}
 use Rattle.official_time.specs.declared.date.Date.{Date}
 use Rattle.official_time.specs.declared.date.Weekday.{Weekday}
 use Rattle.official_time.specs.declared.date.Weekday.TheVariants.{Monday, Tuesday, Wednesday, Thursday, Friday, Saturday, Sunday}

@@ -1,14 +1,11 @@
 -- What the definitions of hours give: the summer of each year, labels, and the clock from hour to hour.
-use Rattle.std.proofs.Common.{◌≡◌, ℕ, zero, suc, ◌+◌, ◌-◌, ◌*◌, ◌/◌, ◌%◌, ◌<◌, ◌≤◌, min, Bool, true, false, cond, ◌&&◌, eqb, ltb, leb, ◌⊎◌, sym, refl, ap, ◌∙◌, subst, inl, inr, ⊎_elim, arith}
+use Rattle.std.proofs.Common.{◌≡◌, ℕ, ◌+◌, ◌-◌, ◌*◌, ◌/◌, ◌%◌, ◌<◌, ◌≤◌, min, Bool, true, false, cond, ◌&&◌, eqb, ltb, leb, ◌⊎◌, sym, refl, ap, ◌∙◌, subst, inl, inr, ⊎_elim, arith}
 use mathlib.Core.Bool.{beq}
 use Rattle.std.proofs.lemmas.Bool.{and_parts, and_from, leb-true, leb-false, le-leb, ltb-true, lt-ltb, cases_lt, cond_both, cond-true, eqb-true, eqb-false, eq-eqb, cases_Bool, cases_eq}
-use Rattle.official_time.specs.declared.date.Date.{Date}
 use Rattle.official_time.specs.declared.label.Label.{Label}
-use Rattle.official_time.specs.declared.date.Weekday.TheVariants.{Sunday}
-use Rattle.vocabulary.specs.Ranges.{between}
-use Rattle.official_time.specs.Dates.{on, leap_day, month_days, year_days, is_date, days_of_years, days_of_months, day_of, weekday, LastSunday}
-use Rattle.official_time.specs.Hours.{last_hour, is_hour, last_sunday, change_day, change_month, year_of, flag, InSummer, IsLabel, meant, is_label, clock_day, clock_place, GoesOn, ordinary, midnight, spring, autumn, DayLength, last}
-use Rattle.official_time.proofs.Dates.{leap_small, years_closed, real, Real, is_real, is_sunday, weekday_at, year_from, same_date, within}
+use Rattle.official_time.specs.Dates.{on, month_days, is_date, days_of_years, day_of, LastSunday}
+use Rattle.official_time.specs.Hours.{last_hour, is_hour, last_sunday, change_day, change_month, year_of, flag, InSummer, IsLabel, meant, is_label, clock_day, GoesOn, ordinary, midnight, spring, autumn, DayLength, last}
+use Rattle.official_time.proofs.Dates.{leap_small, years_closed, real, is_real, is_sunday, weekday_at, year_from, within}
 
 -- the formula gives the last Sunday
 pub sunday_there : (y m : ℕ) → 2000 ≤ y → y ≤ 2099 → month_days y m ≡ 31 → LastSunday y m (last_sunday y m)

@@ -1,5 +1,5 @@
 -- Dates from 2000 to 2099, and the numbers of days: day 0 is 2000/01/01, a Saturday.
-use Rattle.std.specs.Prelude.{◌≡◌, ℕ, zero, suc, ◌+◌, ◌-◌, ◌*◌, ◌%◌, ◌<◌, ◌≤◌, Bool, true, false, cond, ◌&&◌, List, [], ◌∷◌, ◌==◌, slice_index}
+use Rattle.std.specs.Prelude.{◌≡◌, ℕ, zero, suc, ◌+◌, ◌-◌, ◌%◌, ◌<◌, Bool, true, cond, ◌&&◌, List, [], ◌∷◌, ◌==◌, slice_index}
 use Rattle.vocabulary.specs.Ranges.{between}
 use Rattle.official_time.specs.declared.date.Date.{Date}
 use Rattle.official_time.specs.declared.date.Weekday.{Weekday}

@@ -1,6 +1,6 @@
 -- The order of hours: by their numbers.
-use Rattle.std.specs.Prelude.{◌≡◌, ◌<◌, ◌⊎◌}
-use Rattle.std.proofs.Common.{ap, inl, inr, ⊎_elim, arith}
+use Rattle.std.specs.Prelude.{◌≡◌, ◌<◌}
+use Rattle.std.proofs.Common.{inl, inr, ⊎_elim, arith}
 use denote.Struct.Record.{values_one}
 use Rattle.std.proofs.lemmas.Bool.{cases_order}
 use Rattle.sorted_table.specs.Orders.{TotalOrder}

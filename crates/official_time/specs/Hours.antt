@@ -1,6 +1,5 @@
 -- Hours of official time: their numbers, the summer flag, their labels, and the clock.
-use Rattle.std.specs.Prelude.{◌≡◌, ℕ, ◌+◌, ◌-◌, ◌*◌, ◌/◌, ◌%◌, ◌<◌, ◌≤◌, Bool, true, false, cond, ◌&&◌, ◌==◌, nat_le, nat_lt}
-use Rattle.official_time.specs.declared.date.Date.{Date}
+use Rattle.std.specs.Prelude.{◌≡◌, ℕ, ◌+◌, ◌-◌, ◌*◌, ◌/◌, ◌%◌, ◌<◌, ◌≤◌, Bool, true, cond, ◌&&◌, ◌==◌, nat_le, nat_lt}
 use Rattle.official_time.specs.declared.label.Label.{Label}
 use Rattle.official_time.specs.declared.season.Season.{Season}
 use Rattle.official_time.specs.declared.season.Season.TheVariants.{Winter, Summer}

@@ -1,5 +1,5 @@
 -- How dates and labels are written: aaaa/mm/dd, and aaaa/mm/dd hh:mm.
-use Rattle.std.specs.Prelude.{◌≡◌, ℕ, ◌+◌, ◌/◌, ◌%◌, ◌<◌, List, [], ◌∷◌, ◌++◌}
+use Rattle.std.specs.Prelude.{ℕ, ◌+◌, ◌/◌, ◌%◌, ◌<◌, List, [], ◌∷◌, ◌++◌}
 use Rattle.official_time.specs.declared.date.Date.{Date}
 use Rattle.official_time.specs.declared.label.Label.{Label}
 

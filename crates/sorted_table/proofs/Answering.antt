@@ -1,5 +1,5 @@
 -- From what putting a run answers to what the table's calls answer.
-use Rattle.std.proofs.Common.{◌≡◌, ℕ, ◌+◌, ◌<◌, ◌≤◌, Bool, true, false, cond, List, [], ◌∷◌, length, take, Ok, Err, Result, sym, refl, ap, ◌∙◌, subst, ⊎_elim, arith}
+use Rattle.std.proofs.Common.{◌≡◌, ℕ, ◌≤◌, Bool, true, false, cond, List, [], ◌∷◌, length, take, Err, Result, sym, ap, subst, ⊎_elim, arith}
 use Rattle.std.proofs.lemmas.List.{length-take}
 use Rattle.sorted_table.specs.declared.merge.RunRefused.{RunRefused}
 use Rattle.sorted_table.specs.declared.merge.RunRefused.TheVariants.{NotAscending, TooFewPlaces}

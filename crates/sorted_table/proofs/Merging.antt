@@ -1,9 +1,9 @@
 -- Merging a run into entries puts the run's entries one by one.
-use Rattle.std.proofs.Common.{◌≡◌, ℕ, zero, suc, ◌+◌, ◌<◌, ◌≤◌, ◌⊎◌, List, [], ◌∷◌, ◌++◌, length, get_or, take, drop, sym, refl, ap, ◌∙◌, subst, inl, inr, ⊎_elim, arith}
+use Rattle.std.proofs.Common.{◌≡◌, suc, ◌⊎◌, List, [], ◌∷◌, ◌++◌, sym, refl, ap, ◌∙◌, subst, inl, inr, ⊎_elim, arith}
 use Rattle.std.specs.List.{ContainsAt as Has, AllByRecursion as All}
-use Rattle.std.proofs.ByRecursion.{all-has, All-weaker}
+use Rattle.std.proofs.ByRecursion.{all-has}
 use Rattle.sorted_table.specs.Orders.{TotalOrder}
-use Rattle.sorted_table.specs.Entries.{entry, Lacks, Rising, Put, Puts}
+use Rattle.sorted_table.specs.Entries.{entry, Rising, Put, Puts}
 use Rattle.sorted_table.specs.Merged.{among, merged}
 use Rattle.sorted_table.specs.declared.place.Place.{Place}
 use Rattle.sorted_table.proofs.Entries.{has_here, has_there, has_cases, has_none, all_behind, asymmetric, by_order, not_itself}

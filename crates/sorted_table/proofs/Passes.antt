@@ -1,7 +1,7 @@
 -- Going through entries and a run together: counting, and merging within one area.
-use Rattle.std.proofs.Common.{◌≡◌, ℕ, zero, suc, ◌+◌, ◌-◌, ◌<◌, ◌≤◌, Bool, true, false, List, [], ◌∷◌, ◌++◌, length, get_or, take, drop, set, Ok, Err, MatchBool, Ordering, Less, Equal, Greater, sym, refl, ap, ◌∙◌, subst, append_assoc, arith}
+use Rattle.std.proofs.Common.{◌≡◌, ℕ, suc, ◌+◌, ◌-◌, ◌<◌, ◌≤◌, Bool, true, false, List, [], ◌∷◌, ◌++◌, length, get_or, take, drop, set, Ok, Err, MatchBool, Less, Equal, Greater, sym, refl, ap, ◌∙◌, subst, append_assoc, arith}
 use Rattle.std.proofs.lemmas.Bool.{true≢false}
-use Rattle.std.proofs.lemmas.List.{drop-set-lt, length-set, length-drop, take_more_set, take-append-drop, take_all}
+use Rattle.std.proofs.lemmas.List.{drop-set-lt, length-set, length-drop, take_more_set, take-append-drop}
 use Rattle.sorted_table.specs.Orders.{TotalOrder}
 use Rattle.sorted_table.specs.Entries.{Rising}
 use Rattle.sorted_table.specs.Merged.{Counted, merged}

@@ -1,5 +1,5 @@
 -- What the puts of a run settle: the order, and the number of entries.
-use Rattle.std.proofs.Common.{◌≡◌, ℕ, suc, ◌+◌, ◌<◌, ◌≤◌, ◌⊎◌, List, [], ◌∷◌, length, sym, refl, ap, ◌∙◌, subst, inl, inr, ⊎_elim, arith}
+use Rattle.std.proofs.Common.{◌≡◌, ◌+◌, ◌⊎◌, List, [], ◌∷◌, length, sym, refl, ap, ◌∙◌, subst, inl, inr, ⊎_elim}
 use Rattle.std.specs.List.{ContainsAt as Has}
 use Rattle.sorted_table.specs.Orders.{TotalOrder}
 use Rattle.sorted_table.specs.Entries.{entry, Lacks, Rising, Put, Puts}

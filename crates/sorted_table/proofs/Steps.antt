@@ -1,5 +1,5 @@
 -- One step of going through entries and a run together.
-use Rattle.std.proofs.Common.{◌≡◌, ℕ, zero, suc, ◌+◌, ◌<◌, ◌≤◌, List, [], ◌∷◌, length, get_or, drop, Ordering, Less, Equal, Greater, sym, refl, ap, ◌∙◌, subst, not-suc-le-zero, add-one, arith}
+use Rattle.std.proofs.Common.{◌≡◌, ℕ, zero, suc, ◌+◌, ◌<◌, ◌≤◌, List, [], ◌∷◌, length, get_or, drop, Ordering, Less, Equal, Greater, sym, ap, ◌∙◌, add-one, arith}
 use Rattle.std.specs.Ordering.{MatchOrdering}
 use Rattle.std.specs.List.{HoldsAt}
 use Rattle.sorted_table.specs.Orders.{TotalOrder}

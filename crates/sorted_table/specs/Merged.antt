@@ -1,5 +1,5 @@
 -- Two ascending lists of entries made one, which is how a run is put: the words of the private functions.
-use Rattle.std.specs.Prelude.{◌≡◌, ℕ, ◌+◌, ◌<◌, ◌≤◌, ◌⊎◌, List, [], ◌∷◌, ◌++◌, length, take, drop, Ok, Err, Result}
+use Rattle.std.specs.Prelude.{◌≡◌, ℕ, ◌+◌, ◌<◌, ◌≤◌, List, [], ◌∷◌, ◌++◌, length, take, drop, Ok, Err, Result}
 use Rattle.std.proofs.Common.{inl, inr}
 use Rattle.sorted_table.specs.declared.merge.RunRefused.{RunRefused}
 use Rattle.sorted_table.specs.declared.merge.RunRefused.TheVariants.{NotAscending, TooFewPlaces}

@@ -1,5 +1,5 @@
 -- The rules of the three calendars: the tariff period of every hour.
-use Rattle.std.specs.Prelude.{◌≡◌, ℕ, ◌+◌, ◌*◌, ◌/◌, ◌<◌, ◌≤◌, Bool, true, false, cond, ◌||◌, List, [], ◌∷◌, ◌==◌}
+use Rattle.std.specs.Prelude.{◌≡◌, ℕ, ◌+◌, ◌*◌, ◌/◌, ◌<◌, Bool, true, false, cond, ◌||◌, List, [], ◌∷◌, ◌==◌}
 use Rattle.vocabulary.specs.Ranges.{between}
 use Rattle.official_time.specs.Dates.{day_of, is_date, on, weekday}
 use Rattle.official_time.specs.Hours.{clock_day, clock_place, flag}

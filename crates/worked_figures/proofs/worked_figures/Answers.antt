@@ -1,9 +1,8 @@
-use Rattle.std.proofs.Common.{ℕ, refl, arith, lit<, lit≤}
+use Rattle.std.proofs.Common.{refl, arith}
 use Rattle.official_time.specs.Dates.{day_of, is_date}
 use Rattle.official_time.specs.Hours.{flag}
 use Rattle.std.specs.Fmt.{digits}
 use Rattle.f5d.specs.Written.{label_of, lines_text}
-use Rattle.worked_figures.specs.Labels.{Labelled}
 use Rattle.worked_figures.proofs.Exchanges.{night_after, night_exchanged}
 use Rattle.worked_figures.proofs.worked_figures.Goals as goal
 

@@ -1,4 +1,4 @@
-use Rattle.std.proofs.Common.{arith, rules}
+use Rattle.std.proofs.Common.{arith}
 use Rattle.closing.proofs.Bills.{few_at}
 use Rattle.closing.proofs.balance.choose_bill.Goals as goal
 

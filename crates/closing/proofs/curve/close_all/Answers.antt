@@ -1,4 +1,4 @@
-use Rattle.std.proofs.Common.{◌≡◌, ◌+◌, ◌<◌, ◌≤◌, length, sym, refl, ◌∙◌, subst, arith}
+use Rattle.std.proofs.Common.{◌+◌, ◌<◌, ◌≤◌, length, sym, refl, subst, arith}
 use Rattle.closing.specs.Lent.{case_of}
 use Rattle.closing.specs.Periods.{InLimits}
 use Rattle.closing.proofs.Stops.{figures_at, kwh_at}

@@ -1,5 +1,4 @@
-use Rattle.std.proofs.Common.{◌≡◌, ◌+◌, ◌<◌, length, get_or, None, sym, refl, ap, ◌∙◌, subst, arith}
-use Rattle.std.proofs.lemmas.Bool.{eq-eqb}
+use Rattle.std.proofs.Common.{◌≡◌, ◌+◌, ◌<◌, length, get_or, None, sym, ap, ◌∙◌, subst, arith}
 use Rattle.closing.specs.Lent.{case_of}
 use Rattle.closing.specs.Periods.{PeriodClosed, SharingAt, weight_by}
 use Rattle.closing.proofs.Writing.{due, none_written, turn_elsewhere, written}

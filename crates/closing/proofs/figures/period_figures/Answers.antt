@@ -1,4 +1,4 @@
-use Rattle.std.proofs.Common.{◌≡◌, ◌+◌, length, sym, refl, ap, ◌∙◌, arith, rules}
+use Rattle.std.proofs.Common.{◌≡◌, ◌+◌, length, sym, refl, ap, ◌∙◌, arith}
 use Rattle.closing.specs.Lent.{case_of, figures_to, with_missing}
 use Rattle.closing.proofs.Figuring.{energies_length, hours_limit, missing_limit, missing_next, other_next, read_limit, read_next, some_limit, weightless_limit, weights_limit}
 use Rattle.closing.proofs.figures.period_figures.Goals as goal

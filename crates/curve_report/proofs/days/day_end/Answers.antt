@@ -1,4 +1,4 @@
-use Rattle.std.proofs.Common.{◌≡◌, ◌+◌, ◌-◌, true, eqb, map, length, get_or, take, drop, sym, ap, ◌∙◌, arith, rules}
+use Rattle.std.proofs.Common.{◌≡◌, ◌+◌, ◌-◌, map, length, get_or, take, drop, sym, ap, ◌∙◌, arith, rules}
 use Rattle.official_time.specs.Hours.{clock_day}
 use Rattle.f5d.specs.Meanings.{record_of}
 use Rattle.f5d.specs.Records.{every_record}

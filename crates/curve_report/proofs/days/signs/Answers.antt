@@ -1,4 +1,4 @@
-use Rattle.std.proofs.Common.{◌≡◌, ℕ, ◌+◌, ◌-◌, true, ◌∷◌, map, get_or, drop, set, sym, ap, ◌∙◌, subst, arith, length-set}
+use Rattle.std.proofs.Common.{◌≡◌, ◌+◌, ◌-◌, true, ◌∷◌, map, drop, set, sym, ap, ◌∙◌, subst, arith, length-set}
 use Rattle.f5d.specs.Meanings.{record_of}
 use Rattle.f5d.specs.Methods.{method_number}
 use Rattle.std.proofs.lemmas.List.{at_drop_all, at_drop_more}

@@ -1,4 +1,4 @@
-use Rattle.std.proofs.Common.{◌≡◌, List, [], ◌∷◌, ◌++◌, take, string_bytes, sym, refl, ap, ◌∙◌, subst, append_assoc, rules}
+use Rattle.std.proofs.Common.{[], ◌∷◌, ◌++◌, take, string_bytes, ap, ◌∙◌, append_assoc}
 use Rattle.official_time.specs.Texts.{date_text}
 use Rattle.curve_report.proofs.Signs.{every_take}
 use Rattle.curve_report.specs.Report.{ascii}

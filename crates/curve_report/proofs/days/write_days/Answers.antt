@@ -1,4 +1,4 @@
-use Rattle.std.proofs.Common.{◌≡◌, ℕ, List, [], ◌++◌, map, get_or, drop, string_bytes, sym, ap, ◌∙◌, subst, append_assoc, append-nil, arith}
+use Rattle.std.proofs.Common.{◌≡◌, [], ◌++◌, map, get_or, string_bytes, sym, ap, ◌∙◌, subst, append_assoc, append-nil, arith}
 use Rattle.f5d.specs.Meanings.{record_of}
 use Rattle.official_time.specs.Hours.{clock_day}
 use Rattle.std.proofs.lemmas.List.{at_drop_all}

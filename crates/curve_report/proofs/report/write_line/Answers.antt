@@ -1,4 +1,4 @@
-use Rattle.std.proofs.Common.{◌∷◌, ◌++◌, map, string_bytes, decimal, sym, ap, ◌∙◌, append_assoc, rules}
+use Rattle.std.proofs.Common.{◌∷◌, ◌++◌, map, string_bytes, decimal, sym, ap, ◌∙◌, append_assoc}
 use lib.ListN.{length-map}
 use Rattle.f5d.specs.Meanings.{record_of}
 use Rattle.curve_report.specs.Report.{supply_line}

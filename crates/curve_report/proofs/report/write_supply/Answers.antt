@@ -1,4 +1,4 @@
-use Rattle.std.proofs.Common.{◌≡◌, ◌++◌, map, get_or, string_bytes, sym, refl, ap, ◌∙◌, append_assoc}
+use Rattle.std.proofs.Common.{◌≡◌, ◌++◌, map, get_or, string_bytes, refl, ap, ◌∙◌, append_assoc}
 use Rattle.f5d.specs.Meanings.{record_of}
 use Rattle.curve_report.specs.Report.{supply_line}
 use Rattle.curve_report.proofs.report.write_supply.Goals as goal

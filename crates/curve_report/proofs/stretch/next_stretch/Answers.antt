@@ -1,9 +1,9 @@
-use Rattle.std.proofs.Common.{◌≡◌, ℕ, true, ◌&&◌, List, [], ◌∷◌, ◌++◌, map, length, vec_items, sym, refl, ap, ◌∙◌, subst, append_assoc, append-nil, arith, rules}
+use Rattle.std.proofs.Common.{◌≡◌, true, ◌&&◌, [], ◌∷◌, ◌++◌, map, length, vec_items, sym, refl, ap, ◌∙◌, subst, append_assoc, append-nil, arith}
 use borrow.Author.Tests.{clash}
 use Rattle.std.proofs.lemmas.List.{map_push}
 use Rattle.std.proofs.lemmas.Bool.{and_from}
 use Rattle.f5d.specs.Meanings.{record_of}
-use Rattle.f5d.specs.Records.{every_record, Lines, Record}
+use Rattle.f5d.specs.Records.{every_record, Lines}
 use Rattle.f5d.proofs.Going.{line_shortens}
 use Rattle.f5d.proofs.Turns.{every_record-append, same_itself}
 use Rattle.curve_report.specs.Report.{of_supply}

@@ -1,4 +1,4 @@
-use Rattle.std.proofs.Common.{◌≡◌, suc, ◌+◌, ◌-◌, drop, sym, ap, ◌∙◌, arith, rules}
+use Rattle.std.proofs.Common.{◌≡◌, suc, ◌+◌, ◌-◌, drop, ap, ◌∙◌, arith, rules}
 use Rattle.f5d.specs.Reading.{leading}
 use Rattle.f5d.proofs.Leading.{leading_ends, leading_more, leading_stops}
 use Rattle.f5d.proofs.bytes.leading.Goals as goal

@@ -1,7 +1,7 @@
-use Rattle.std.proofs.Common.{◌≡◌, ◌+◌, length, drop, sym, ap, ◌∙◌, arith, rules}
+use Rattle.std.proofs.Common.{◌≡◌, length, drop, sym, ap, ◌∙◌, arith}
 use Rattle.std.proofs.lemmas.List.{length-drop}
 use Rattle.f5d.specs.Meanings.{record_of}
-use Rattle.f5d.specs.Reading.{bad, good, read_line}
+use Rattle.f5d.specs.Reading.{good, read_line}
 use Rattle.f5d.specs.Told.{place_of}
 use Rattle.f5d.proofs.Going.{left_found, left_line, left_more, left_none, line_shortens}
 use Rattle.f5d.proofs.Stepping.{tail_from}

@@ -1,6 +1,3 @@
-use Rattle.std.proofs.Common.{◌≡◌}
-use Rattle.std.specs.Ordering.{MatchOrdering}
-use Rattle.f5d.specs.Bytes.{Lower}
 use Rattle.f5d.proofs.Orders.{lex_ranked}
 use Rattle.f5d.proofs.key.compare_codes.Goals as goal
 

@@ -1,4 +1,4 @@
-use Rattle.std.proofs.Common.{◌-◌, take, ap, ◌∙◌, arith}
+use Rattle.std.proofs.Common.{take, ap, ◌∙◌, arith}
 use Rattle.f5d.specs.Names.{named_behind}
 use Rattle.f5d.proofs.FileNames.{word_off, word_on}
 use Rattle.f5d.proofs.Stepping.{tail_from}

@@ -1,7 +1,7 @@
 -- The reading goes from field to field, each behind the one before.
-use Rattle.std.proofs.Common.{◌≡◌, ℕ, ◌+◌, ◌-◌, ◌<◌, ◌≤◌, List, length, take, drop, sym, ap, ◌∙◌, subst, arith}
+use Rattle.std.proofs.Common.{◌≡◌, ℕ, ◌+◌, ◌<◌, ◌≤◌, List, length, drop, sym, ap, ◌∙◌, arith}
 use Rattle.std.proofs.lemmas.List.{drop-drop, length-drop}
-use Rattle.f5d.specs.Meanings.{billed_record, invoice_text}
+use Rattle.f5d.specs.Meanings.{invoice_text}
 use Rattle.f5d.specs.Methods.{firmness_number, method_number}
 use Rattle.f5d.specs.Reading.{good, read_invoice}
 use Rattle.f5d.specs.Told.{invoice_right}

@@ -1,4 +1,4 @@
-use Rattle.std.proofs.Common.{◌-◌, take, ap, ◌∙◌, arith, rules}
+use Rattle.std.proofs.Common.{take, ap, ◌∙◌, arith, rules}
 use Rattle.std.proofs.lemmas.List.{length-take}
 use Rattle.vocabulary.specs.Codes.{every}
 use Rattle.f5d.specs.Reading.{digit}

@@ -1,4 +1,4 @@
-use Rattle.std.proofs.Common.{drop, sym, ap, ◌∙◌, rules}
+use Rattle.std.proofs.Common.{drop, ap, ◌∙◌, rules}
 use Rattle.f5d.specs.Reading.{bad, read_energy}
 use Rattle.f5d.proofs.Stepping.{label_found, label_lost}
 use Rattle.f5d.proofs.read.hour_field.Goals as goal

@@ -1,4 +1,4 @@
-use Rattle.std.proofs.Common.{◌≡◌, ◌-◌, take, sym, ap, ◌∙◌, arith}
+use Rattle.std.proofs.Common.{take, ap, ◌∙◌, arith}
 use Rattle.f5d.proofs.Stepping.{invoice_not_refused, invoice_tested}
 use Rattle.f5d.proofs.read.invoice_field.Goals as goal
 

@@ -1,10 +1,9 @@
 -- The reading goes from A to the label, and from there to the energy.
-use Rattle.std.proofs.Common.{◌≡◌, ℕ, ◌+◌, ◌≤◌, List, length, drop, sym, refl, ap, ◌∙◌, arith}
+use Rattle.std.proofs.Common.{◌≡◌, ℕ, List, length, drop, sym, ap, ◌∙◌, arith}
 use Rattle.std.proofs.lemmas.List.{drop-drop, length-drop}
 use Rattle.std.proofs.lemmas.Result.{err_from_is_err_and}
 use Rattle.f5d.specs.Meanings.{billed_record}
 use Rattle.f5d.specs.Reading.{good, read_energy, read_label}
-use Rattle.f5d.specs.Told.{line_told}
 use Rattle.f5d.proofs.Stepping.{supply_off, supply_on, tail, tail_from}
 use Rattle.f5d.proofs.read.read_fields.Goals as goal
 

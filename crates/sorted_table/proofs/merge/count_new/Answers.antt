@@ -1,6 +1,6 @@
-use Rattle.std.proofs.Common.{◌≡◌, ◌∷◌, length, drop, Ok, Err, Less, Equal, Greater, sym, refl, ap, ◌∙◌, subst, arith}
+use Rattle.std.proofs.Common.{◌∷◌, Ok, Err, Less, Equal, Greater, sym, refl, subst, arith}
 use Rattle.sorted_table.specs.Entries.{Rising}
-use Rattle.sorted_table.specs.Merged.{Counted, merged}
+use Rattle.sorted_table.specs.Merged.{Counted}
 use Rattle.sorted_table.specs.declared.merge.RunRefused.TheVariants.{TooFewPlaces}
 use Rattle.sorted_table.proofs.Entries.{not_before}
 use Rattle.sorted_table.proofs.Passes.{Ascending, Tally, ascending_more, counted_none, equal_at, less_at, tally_as, tally_equal, tally_less, tally_new, tally_none, tally_over, all_counted, all_over, ascending_all}

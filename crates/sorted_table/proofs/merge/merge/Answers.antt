@@ -1,4 +1,4 @@
-use Rattle.std.proofs.Common.{◌≡◌, ◌∷◌, drop, Less, Equal, Greater, sym, ap, ◌∙◌, subst, arith}
+use Rattle.std.proofs.Common.{drop, Less, Equal, Greater, sym, ap, ◌∙◌, subst, arith}
 use Rattle.sorted_table.specs.Merged.{merged}
 use Rattle.sorted_table.proofs.Passes.{Underway, after_equal, after_greater, after_less, equal_read, finished, in_area, less_read, nothing, started}
 use Rattle.sorted_table.proofs.Steps.{stands}

@@ -1,4 +1,4 @@
-use Rattle.std.proofs.Common.{◌≡◌, ◌-◌, ◌≤◌, length, take, drop, sym, refl, ap, ◌∙◌, subst, arith}
+use Rattle.std.proofs.Common.{arith}
 use Rattle.sorted_table.proofs.Placing.{moved_up, not_moved}
 use Rattle.sorted_table.proofs.merge.open_gap.Goals as goal
 

@@ -1,4 +1,4 @@
-use Rattle.std.proofs.Common.{Equal, sym, refl}
+use Rattle.std.proofs.Common.{Equal, refl}
 use Rattle.std.proofs.lemmas.Bool.{true≢false}
 use Rattle.sorted_table.proofs.Entries.{found_at, has_at, lacks_here}
 use Rattle.sorted_table.proofs.Steps.{stands}

@@ -1,4 +1,4 @@
-use Rattle.std.proofs.Common.{◌≡◌, ℕ, ◌+◌, List, [], ◌++◌, sym, ap, ◌∙◌, subst, append_assoc, append-nil, arith}
+use Rattle.std.proofs.Common.{◌≡◌, ℕ, ◌+◌, List, [], ◌++◌, sym, ◌∙◌, subst, append_assoc, append-nil, arith}
 use Rattle.official_time.specs.declared.date.Day.{Day}
 use Rattle.official_time.specs.declared.label.Label.{Label}
 use Rattle.official_time.specs.Hours.{IsLabel}

@@ -1,5 +1,5 @@
-use Rattle.std.proofs.Common.{cond, eqb, sym, ap, ◌∙◌, ap₂}
-use Rattle.closing.specs.Periods.{count_by, method_by, total_by, weights_by}
+use Rattle.std.proofs.Common.{cond, eqb, ap, ◌∙◌, ap₂}
+use Rattle.closing.specs.Periods.{method_by, total_by}
 use Rattle.closing.proofs.Beginning.{begun}
 use Rattle.closing.proofs.period.PeriodShare.begin.Goals as goal
 

@@ -1,4 +1,4 @@
-use Rattle.std.proofs.Common.{sym, ◌∙◌}
+use Rattle.std.proofs.Common.{sym}
 use Rattle.closing.proofs.Giving.{closes_kept_read, closes_none_missing, closes_shared_missing, closes_shared_read, kept_stays, may_take, missing_takes, moved, none_stays, read_takes, taken}
 use Rattle.closing.proofs.period.PeriodShare.give.Goals as goal
 

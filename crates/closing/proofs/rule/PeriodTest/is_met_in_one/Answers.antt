@@ -1,4 +1,4 @@
-use Rattle.std.proofs.Common.{◌≡◌, ◌+◌, ◌<◌, cond, sym, refl, ap, ◌∙◌, subst, arith, rules}
+use Rattle.std.proofs.Common.{◌≡◌, ◌+◌, ◌<◌, cond, sym, refl, ◌∙◌, subst, arith}
 use Rattle.closing.specs.Sharing.{below}
 use Rattle.closing.specs.Testing.{stops}
 use Rattle.closing.proofs.Bills.{few_at}

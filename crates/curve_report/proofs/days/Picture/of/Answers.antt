@@ -1,6 +1,5 @@
-use Rattle.std.proofs.Common.{◌≡◌, ◌+◌, ◌-◌, ◌≤◌, map, take, sym, refl, ap, ◌∙◌, arith, rules}
+use Rattle.std.proofs.Common.{◌+◌, ◌-◌, map, take, ap, ◌∙◌, arith}
 use Rattle.f5d.specs.Meanings.{record_of}
-use Rattle.curve_report.specs.Report.{signs}
 use Rattle.curve_report.proofs.Signs.{day_few, day_within, signs_taken}
 use Rattle.curve_report.proofs.days.Picture.of.Goals as goal
 

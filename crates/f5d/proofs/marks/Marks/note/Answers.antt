@@ -1,4 +1,4 @@
-use Rattle.std.proofs.Common.{◌≡◌, ℕ, true, length, set, sym, ap, ◌∙◌, subst, rules}
+use Rattle.std.proofs.Common.{◌≡◌, true, set, ap, ◌∙◌, rules}
 use Rattle.f5d.specs.Marking.{all_marked, mixed, place}
 use Rattle.f5d.proofs.Marked.{all_kept, all_left}
 use Rattle.f5d.proofs.marks.Marks.note.Goals as goal

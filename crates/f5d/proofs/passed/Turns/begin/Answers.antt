@@ -1,4 +1,4 @@
-use Rattle.std.proofs.Common.{◌≡◌, true, [], sym, refl, ap, ◌∙◌, subst}
+use Rattle.std.proofs.Common.{true, [], refl, ap, ◌∙◌, subst}
 use Rattle.std.proofs.lemmas.Bool.{and_from}
 use Rattle.f5d.specs.Bytes.{Lower, lower_irreflexive}
 use Rattle.f5d.specs.Marking.{marked}

@@ -1,4 +1,4 @@
-use Rattle.std.proofs.Common.{◌≡◌, ◌+◌, ◌-◌, ◌^◌, ◌<◌, ◌≤◌, ◌++◌, length, drop, decimal}
+use Rattle.std.proofs.Common.{◌≡◌, ◌+◌, ◌^◌, ◌<◌, ◌++◌, length, drop, decimal}
 use Rattle.f5d.proofs.write.Digits.of.Given as goal
 
 -- the digits from behind `from` on are the last ones of the number, and `rest` has the others

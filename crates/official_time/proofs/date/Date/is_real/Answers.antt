@@ -1,4 +1,4 @@
-use Rattle.std.proofs.Common.{◌≡◌, true, sym, ◌∙◌, rules}
+use Rattle.std.proofs.Common.{◌≡◌, sym, ◌∙◌, rules}
 use Rattle.official_time.specs.Dates.{is_date}
 use Rattle.official_time.proofs.Dates.{parts}
 use Rattle.official_time.proofs.date.Date.is_real.Goals as goal

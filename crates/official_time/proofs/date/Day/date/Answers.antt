@@ -1,4 +1,4 @@
-use Rattle.std.proofs.Common.{◌-◌, ◌*◌, ◌/◌, sym, ◌∙◌, arith}
+use Rattle.std.proofs.Common.{◌-◌, ◌*◌, ◌/◌, arith}
 use Rattle.official_time.proofs.Dates.{date_in, in_year_of, same_date}
 use Rattle.official_time.proofs.date.Day.date.Goals as goal
 

@@ -1,5 +1,4 @@
 use Rattle.std.proofs.Common.{arith}
-use Rattle.official_time.specs.Hours.{clock_place}
 use Rattle.official_time.proofs.Hours.{goes_on}
 use Rattle.official_time.proofs.hour.Hour.clock_place.Goals as goal
 

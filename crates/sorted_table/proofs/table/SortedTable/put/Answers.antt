@@ -1,4 +1,4 @@
-use Rattle.std.proofs.Common.{◌≡◌, [], ◌∷◌, length, Err, refl, subst, arith}
+use Rattle.std.proofs.Common.{length, Err, refl, subst}
 use Rattle.sorted_table.specs.Entries.{entry, Puts, RunPut}
 use Rattle.sorted_table.specs.Tables.{entries_of}
 use Rattle.sorted_table.proofs.Answering.{front_within, one_put, one_refused, only_one}
