@@ -1,6 +1,6 @@
 -- The curve of a book as a list: its energies, its hours, and that lines can bear it.
 use Rattle.std.proofs.Common.{◌≡◌, ℕ, zero, suc, ◌+◌, ◌-◌, ◌*◌, ◌<◌, ◌≤◌, true, cond, ◌&&◌, ◌||◌, eqb, leb, List, [], ◌∷◌, get_or, Some, None, Option, unwrap_or, sym, refl, ap, ◌∙◌, subst, add-zero, zero-add, arith}
-use Rattle.std.specs.List.{AllByRecursion as All}
+use Rattle.std.specs.List.{AllByRecursion}
 use Rattle.std.proofs.lemmas.Bool.{and_from, and_parts, cond_both, le-leb, leb-true, not-false}
 use Rattle.closing.proofs.Curves.{closing_law, right_alike}
 use Rattle.closing.proofs.Passing.{passed}
@@ -34,7 +34,7 @@ whole_from t c b inv i (suc n) =
 -- ## What the parts of a book are bounded by
 
 -- what holds of the elements and of what stands for none holds at every place
-pub all_at : {A : Type 0} (P : A → Type 0) (xs : List A) (i : ℕ) (d : A) → P d → All P xs → P (get_or xs i d)
+pub all_at : {A : Type 0} (P : A → Type 0) (xs : List A) (i : ℕ) (d : A) → P d → AllByRecursion P xs → P (get_or xs i d)
 all_at P [] i d p a = p
 all_at P (x ∷ xs) zero d p a = a.0
 all_at P (x ∷ xs) (suc i) d p a = all_at P xs i d p a.1
@@ -92,7 +92,7 @@ module _ (k : Book) (sound : Sound k) (cal : Timetable) (prof : Weights) where
       c
       (λ p. let r = read_sum p in omega arith)
     where
-      held_limit : (s : ℕ) (x : Balance) → All (λ kwh. kwh ≤ 55 * k.terms.hours) x.kwh → (p : ℕ) → get_or x.kwh (p - 1) 0 ≤ 82500
+      held_limit : (s : ℕ) (x : Balance) → AllByRecursion (λ kwh. kwh ≤ 55 * k.terms.hours) x.kwh → (p : ℕ) → get_or x.kwh (p - 1) 0 ≤ 82500
       held_limit s x a p =
           let h = (begun k.terms sound.begun).hours in
           let e = all_at (λ kwh. kwh ≤ 55 * k.terms.hours) x.kwh (p - 1) 0 (omega arith) a in

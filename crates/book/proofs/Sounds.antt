@@ -1,6 +1,6 @@
 -- Granted calls keep a book sound.
 use Rattle.std.proofs.Common.{◌≡◌, ℕ, zero, suc, ◌-◌, ◌*◌, ◌≤◌, true, false, List, [], ◌∷◌, map, replicate, Some, None, Option, ◌∙◌}
-use Rattle.std.specs.List.{AllByRecursion as All}
+use Rattle.std.specs.List.{AllByRecursion}
 use Rattle.std.proofs.ByRecursion.{All-set}
 use Rattle.std.proofs.lemmas.List.{length-replicate, length-set}
 use Rattle.std.proofs.lemmas.Bool.{ltb-false, or_parts}
@@ -13,7 +13,7 @@ use Rattle.book.specs.Books.{answer, Book, BookCall, changed, difference, is_boo
 use Rattle.book.proofs.Curves.{fine_curve}
 use Rattle.book.proofs.Grants.{balance_small, estimate_small, reading_small}
 
-none_read : (n : ℕ) → All ReadLimit (replicate n None)
+none_read : (n : ℕ) → AllByRecursion ReadLimit (replicate n None)
 none_read zero = tt
 none_read (suc n) = (tt, none_read n)
 
@@ -21,13 +21,13 @@ begins : (t : Terms) → is_book t ≡ true → Sound (unused t)
 begins t e = record { begun = e; hours = length-replicate t.hours None; read = none_read t.hours; billed = (tt, (tt, (tt, (tt, (tt, tt))))) }
 
 -- what is not too much for a book
-small_parts : (k : Book) (parts : List Registered) → some_of (λ v. too_much k (difference k v)) parts ≡ false → All (λ kwh. kwh ≤ 55 * k.terms.hours) (map (difference k) parts)
+small_parts : (k : Book) (parts : List Registered) → some_of (λ v. too_much k (difference k v)) parts ≡ false → AllByRecursion (λ kwh. kwh ≤ 55 * k.terms.hours) (map (difference k) parts)
 small_parts k [] e = tt
 small_parts k (v ∷ vs) e =
     let p = or_parts (too_much k (difference k v)) (some_of (λ v. too_much k (difference k v)) vs) e in
     (ltb-false (55 * k.terms.hours) (difference k v) p.0, small_parts k vs p.1)
 
-small_estimates : (k : Book) (kwh : List ℕ) → some_of (too_much k) kwh ≡ false → All (λ n. n ≤ 55 * k.terms.hours) kwh
+small_estimates : (k : Book) (kwh : List ℕ) → some_of (too_much k) kwh ≡ false → AllByRecursion (λ n. n ≤ 55 * k.terms.hours) kwh
 small_estimates k [] e = tt
 small_estimates k (n ∷ ns) e =
     let p = or_parts (too_much k n) (some_of (too_much k) ns) e in

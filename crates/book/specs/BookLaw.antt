@@ -1,6 +1,6 @@
 -- What a book can be relied on for: its curves are right, whole, and such that lines can bear them.
 use Rattle.std.specs.Prelude.{◌≡◌, ℕ, suc, ◌+◌, ◌*◌, ◌≤◌, true, List, [], ◌∷◌, map, length, Some, None, Option, slice_index}
-use Rattle.std.specs.List.{AllByRecursion as All}
+use Rattle.std.specs.List.{AllByRecursion}
 use Rattle.closing.specs.Closing.{Balance}
 use Rattle.closing.specs.Curves.{RightCurve}
 use Rattle.f5d.specs.Records.{can_bear, every_record, Record}
@@ -25,14 +25,14 @@ ReadLimit (Some wh) = wh ≤ 55000
 
 abbrev pub BalanceLimit : ℕ → Option Balance → Type 0
 BalanceLimit hours None = Unit {0}
-BalanceLimit hours (Some b) = All (λ kwh. kwh ≤ 55 * hours) b.kwh
+BalanceLimit hours (Some b) = AllByRecursion (λ kwh. kwh ≤ 55 * hours) b.kwh
 
 -- a book as it is begun, or as granted calls left it
 pub record Sound (k : Book) : Type 0 where
   pub begun : is_book k.terms ≡ true
   pub hours : length k.reads ≡ k.terms.hours
-  pub read : All ReadLimit k.reads
-  pub billed : All (BalanceLimit k.terms.hours) k.balances
+  pub read : AllByRecursion ReadLimit k.reads
+  pub billed : AllByRecursion (BalanceLimit k.terms.hours) k.balances
 
 -- what is promised of the curve that a granted close gives the book
 pub record FineCurve (k : Book) (cal : Timetable) (prof : Weights) (curve : List Record) : Type 0 where

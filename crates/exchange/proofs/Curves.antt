@@ -1,7 +1,7 @@
 -- Whole curves: which records they have, and the keys under which they stand.
 use Rattle.std.proofs.Common.{◌≡◌, ℕ, zero, suc, ◌+◌, ◌<◌, Bool, true, false, cond, ◌||◌, eqb, List, [], ◌∷◌, ◌++◌, length, get_or, Some, None, sym, refl, ap, ◌∙◌, ap₂, arith, length-append}
 use Rattle.std.proofs.lemmas.Bool.{and_left, both_ways, cond-false, or_left, or_right}
-use Rattle.std.specs.List.{AllByRecursion as All}
+use Rattle.std.specs.List.{AllByRecursion}
 use Rattle.book.specs.BookLaw.{done, more, Whole}
 use Rattle.book.specs.Books.{sum_of, Terms}
 use Rattle.f5d.specs.Records.{Record, same}
@@ -75,7 +75,7 @@ line_among r [] j lt e = absurd (omega arith)
 line_among r (t ∷ ts) zero lt e = has_left r (line t.supply t.first t.hours) (keys ts) e
 line_among r (t ∷ ts) (suc j) lt e = has_right r (line t.supply t.first t.hours) (keys ts) (line_among r ts j (omega arith) e)
 
-whole_among : {u : List ℕ} {a n : ℕ} {c : List Record} (ks : List Record) → Whole u a n c → ((r : Record) → has r (line u a n) ≡ true → has r ks ≡ true) → All (λ r. has r ks ≡ true) c
+whole_among : {u : List ℕ} {a n : ℕ} {c : List Record} (ks : List Record) → Whole u a n c → ((r : Record) → has r (line u a n) ≡ true → has r ks ≡ true) → AllByRecursion (λ r. has r ks ≡ true) c
 whole_among ks done f = tt
 whole_among {u} {a} ks (more {n = n} {r = r} {rs = rs} d e w) f = (
   f r (or_left (same_key r (key u a)) (has r (line u (a + 1) n)) (same_key_from r (key u a) d e)),
@@ -83,5 +83,5 @@ whole_among {u} {a} ks (more {n = n} {r = r} {rs = rs} d e w) f = (
 )
 
 -- the records of a book's curve stand under the books' keys
-pub curve_among : (ts : List Terms) (j : ℕ) (c : List Record) → j < length ts → Curve (get_or ts j nobody) c → All (λ r. has r (keys ts) ≡ true) c
+pub curve_among : (ts : List Terms) (j : ℕ) (c : List Record) → j < length ts → Curve (get_or ts j nobody) c → AllByRecursion (λ r. has r (keys ts) ≡ true) c
 curve_among ts j c lt w = whole_among (keys ts) w (λ r e. line_among r ts j lt e)

@@ -5,7 +5,7 @@ use lib.ListN.{length-map, get_or-append, get_or-map}
 use lib.Seq.{get_or-append_seam}
 use Rattle.std.proofs.ByRecursion.{All-append, All-get_or}
 use Rattle.std.proofs.lemmas.Bool.{and_left, cases_eq, cases_lt, or_from}
-use Rattle.std.specs.List.{AllByRecursion as All}
+use Rattle.std.specs.List.{AllByRecursion}
 use Rattle.book.specs.Books.{some_of}
 use Rattle.f5d.specs.Names.{comes_next, is_name, Name}
 use Rattle.f5d.specs.Records.{in_turn, Record, same}
@@ -64,7 +64,7 @@ starts_more [] n s f = f
 starts_more (m ∷ ns) n s f = s
 
 -- the name that an opened file gets follows the last
-pub follows_last : (fs : List SealedFile) (d r : List ℕ) (n : Name) → All (Coded d r) (names fs) → Coded d r n →
+pub follows_last : (fs : List SealedFile) (d r : List ℕ) (n : Name) → AllByRecursion (Coded d r) (names fs) → Coded d r n →
     (elim (last_of fs) [ None ↦ false | Some f ↦ ltb (day_of n.date) (day_of f.name.date) ]) ≡ false →
     n.version ≡ (elim (last_of fs) [ None ↦ 0 | Some f ↦ cond (ltb (day_of f.name.date) (day_of n.date)) 0 (f.name.version + 1) ]) →
     Follows (names fs) n
@@ -75,7 +75,7 @@ follows_last (f ∷ g ∷ fs) d r n cs c e v = follows_last (g ∷ fs) d r n cs.
 -- names in turn rise
 abbrev pub Sorted : List Name → Type 0
 Sorted [] = Unit {0}
-Sorted (n ∷ ns) = All (Before n) ns × Sorted ns
+Sorted (n ∷ ns) = AllByRecursion (Before n) ns × Sorted ns
 
 pub rising_sorted : (ns : List Name) → Rising ns → Sorted ns
 rising_sorted [] r = tt
@@ -119,7 +119,7 @@ offered_append off (m ∷ ms) ns i k n e =
     ap (λ (b : Bool). (same_name m n && off i) || b) (offered_append off ms ns (suc i) k n (omega arith))
     ∙ sym (or_assoc (same_name m n && off i) (offered_name off ms (suc i) n) (offered_name off ns k n))
 
-none_named : (off : ℕ → Bool) (ns : List Name) (i : ℕ) (n : Name) → All (λ m. same_name m n ≡ false) ns → offered_name off ns i n ≡ false
+none_named : (off : ℕ → Bool) (ns : List Name) (i : ℕ) (n : Name) → AllByRecursion (λ m. same_name m n ≡ false) ns → offered_name off ns i n ≡ false
 none_named off [] i n e = refl
 none_named off (m ∷ ns) i n e =
     or_from (same_name m n && off i) (offered_name off ns (suc i) n) (and_left (same_name m n) (off i) e.0) (none_named off ns (suc i) n e.1)
@@ -146,11 +146,11 @@ Named ns p = (p.index < length ns) × (get_or ns p.index no_name ≡ p.name)
 pub record Posted (s : Setting) (d r : List ℕ) (ns : List Name) (ps : List Pub) : Type 0 where
   pub rising : Rising ns
   pub starts : Starts ns
-  pub well : All (λ n. is_name n ≡ true) ns
-  pub coded : All (Coded d r) ns
-  pub named : All (Named ns) ps
+  pub well : AllByRecursion (λ n. is_name n ≡ true) ns
+  pub coded : AllByRecursion (Coded d r) ns
+  pub named : AllByRecursion (Named ns) ps
   pub falling : Falling ps
-  pub good : All (Good s) ps
+  pub good : AllByRecursion (Good s) ps
   pub turn : (i : ℕ) → in_turn (in_file i ps) ≡ true
 
 length_more : {A : Type 0} (xs : List A) (x : A) → length (xs ++ x ∷ []) ≡ suc (length xs)

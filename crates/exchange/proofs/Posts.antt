@@ -2,7 +2,7 @@
 use Rattle.std.proofs.Common.{◌≡◌, ℕ, ◌+◌, ◌<◌, Bool, true, false, cond, ◌&&◌, eqb, ltb, List, [], ◌∷◌, ◌++◌, length, is_some, Some, None, Option, sym, refl, ap, ◌∙◌, subst, ap₂, ⊎_elim, append-nil, arith}
 use mathlib.Core.Bool.{and-false, and-true}
 use Rattle.std.proofs.lemmas.Bool.{and_cases, and_from, and_parts, both_ways, eqb-false, le-leb, ltb-false, not-false}
-use Rattle.std.specs.List.{AllByRecursion as All}
+use Rattle.std.specs.List.{AllByRecursion}
 use Rattle.book.proofs.Curves.{begun}
 use Rattle.book.specs.Books.{is_closed, Slip, some_of, takes_slip, Terms}
 use Rattle.closing.proofs.Passing.{passed}
@@ -77,7 +77,7 @@ open_there : (s : Setting) (d r : List ℕ) (fs : List SealedFile) (x : Option O
     n.version ≡ (elim (last_of fs) [ None ↦ 0 | Some f ↦ cond (ltb (day_of f.name.date) (day_of n.date)) 0 (f.name.version + 1) ]) →
     Out s d r fs (Some (record { name = n; room = room; curves = [] })) ps
 open_there s d r fs None ps n room o e w c t v =
-    out_open s d r fs ps n room o w c (follows_last fs d r n (subst (All (Coded d r)) (append-nil (names fs)) o.posted.coded) c t v)
+    out_open s d r fs ps n room o w c (follows_last fs d r n (subst (AllByRecursion (Coded d r)) (append-nil (names fs)) o.posted.coded) c t v)
 open_there s d r fs (Some f) ps n room o e w c t v = absurd (both_ways true e refl)
 
 open_posts : (s : Setting) (w : World) (ps : List Pub) (a : List ℕ) (d : Date) (r : ℕ) → OutOf s w.outbox ps →

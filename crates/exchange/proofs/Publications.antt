@@ -2,7 +2,7 @@
 use Rattle.std.proofs.Common.{◌≡◌, ℕ, zero, suc, ◌<◌, ◌≤◌, Bool, true, false, cond, not, ◌&&◌, eqb, ltb, ◌⊎◌, List, [], ◌∷◌, ◌++◌, length, get_or, Some, None, Option, sym, refl, ap, ◌∙◌, subst, ap₂, inl, inr, arith}
 use Rattle.std.proofs.ByRecursion.{All-append}
 use Rattle.std.proofs.lemmas.Bool.{and_from, and_parts, and_right, both_ways, cases_order, cond-false, cond-true, eq-eqb, le-ltb, lt-ltb, ne_eqb, not-true, or_parts}
-use Rattle.std.specs.List.{AllByRecursion as All}
+use Rattle.std.specs.List.{AllByRecursion}
 use Rattle.book.specs.Books.{some_of, Terms}
 use Rattle.f5d.proofs.Turns.{every_record-append, same_itself, same_true}
 use Rattle.f5d.specs.Names.{Name}
@@ -35,7 +35,7 @@ in_file i (p ∷ ps) = cond (eqb p.index i) (in_file i ps ++ p.curve) (in_file i
 -- later curves are in later files, or the same
 abbrev pub Falling : List Pub → Type 0
 Falling [] = Unit {0}
-Falling (p ∷ ps) = All (λ q. q.index ≤ p.index) ps × Falling ps
+Falling (p ∷ ps) = AllByRecursion (λ q. q.index ≤ p.index) ps × Falling ps
 
 -- its book is there, and its curve is one that lines can bear
 pub record Good (s : Setting) (p : Pub) : Type 0 where
@@ -43,7 +43,7 @@ pub record Good (s : Setting) (p : Pub) : Type 0 where
   pub whole : Curve (terms_at s p.book) p.curve
   pub bears : every_record can_bear p.curve ≡ true
 
-pub all_map : {A : Type 0} (P Q : A → Type 0) → ((x : A) → P x → Q x) → (xs : List A) → All P xs → All Q xs
+pub all_map : {A : Type 0} (P Q : A → Type 0) → ((x : A) → P x → Q x) → (xs : List A) → AllByRecursion P xs → AllByRecursion Q xs
 all_map P Q f [] e = tt
 all_map P Q f (x ∷ xs) e = (f x e.0, all_map P Q f xs e.1)
 
@@ -75,13 +75,13 @@ one_supply s f i j li lj d = one_book s.terms f.supplies i j li lj d
 
 -- ## Looking up after a file was loaded
 
-pub newest_alike : (s : Setting) (q q' : Pub → Bool) (u : List ℕ) (ps : List Pub) → All (λ p. q p ≡ q' p) ps → newest s q u ps ≡ newest s q' u ps
+pub newest_alike : (s : Setting) (q q' : Pub → Bool) (u : List ℕ) (ps : List Pub) → AllByRecursion (λ p. q p ≡ q' p) ps → newest s q u ps ≡ newest s q' u ps
 newest_alike s q q' u [] e = refl
 newest_alike s q q' u (p ∷ ps) e =
     ap₂ (λ (b : Bool) (z : List Record). cond (same (terms_at s p.book).supply u && b) p.curve z) e.0 (newest_alike s q q' u ps e.1)
 
 -- no curve of a supply has an hour that another lacks
-newest_none : (s : Setting) → Fits s → (q : Pub → Bool) (u : List ℕ) (h : ℕ) (j : ℕ) (c : List Record) (ps : List Pub) → All (Good s) ps →
+newest_none : (s : Setting) → Fits s → (q : Pub → Bool) (u : List ℕ) (h : ℕ) (j : ℕ) (c : List Record) (ps : List Pub) → AllByRecursion (Good s) ps →
     j < length s.terms → Curve (terms_at s j) c → (terms_at s j).supply ≡ u → record_of u h c ≡ None → record_of u h (newest s q u ps) ≡ None
 newest_none s f q u h j c [] g lj w d e = refl
 newest_none s f q u h j c (p ∷ ps) g lj w d e =
@@ -99,7 +99,7 @@ or_else_none None y f = f refl
 or_else_none (Some x) y f = refl
 
 -- where all are in earlier files
-pub in_file_none : (m : ℕ) (ps : List Pub) → All (λ p. p.index < m) ps → in_file m ps ≡ []
+pub in_file_none : (m : ℕ) (ps : List Pub) → AllByRecursion (λ p. p.index < m) ps → in_file m ps ≡ []
 in_file_none m [] e = refl
 in_file_none m (p ∷ ps) e =
     cond-false (eqb p.index m) (in_file m ps ++ p.curve) (in_file m ps) (ne_eqb p.index m (λ d. let x = e.0 in omega arith)) ∙ in_file_none m ps e.1
@@ -121,13 +121,13 @@ in_file_take m p ps e = cond-true (eqb p.index m) (in_file m ps ++ p.curve) (in_
 lower_test : (m : ℕ) (p : Pub) → p.index < m → in_first m p ≡ in_first (suc m) p
 lower_test m p lt = lt-ltb p.index m lt ∙ sym (lt-ltb p.index (suc m) (omega arith))
 
-pub loaded_lookup : (s : Setting) → Fits s → (m : ℕ) (u : List ℕ) (h : ℕ) (l : List Record) (ps : List Pub) → Falling ps → All (Good s) ps →
+pub loaded_lookup : (s : Setting) → Fits s → (m : ℕ) (u : List ℕ) (h : ℕ) (l : List Record) (ps : List Pub) → Falling ps → AllByRecursion (Good s) ps →
     record_of u h l ≡ record_of u h (newest s (in_first m) u ps) →
     record_of u h (put_all (in_file m ps) l) ≡ record_of u h (newest s (in_first (suc m)) u ps)
 loaded_lookup s f m u h l [] fall good e = e
 loaded_lookup s f m u h l (p ∷ ps) fall good e = go (cases_order p.index m) (loaded_lookup s f m u h l ps fall.1 good.1)
   where
-    earlier : p.index < m → All (λ q. q.index < m) (p ∷ ps)
+    earlier : p.index < m → AllByRecursion (λ q. q.index < m) (p ∷ ps)
     earlier lt = (lt, all_map (λ q. q.index ≤ p.index) (λ q. q.index < m) (λ q le. omega arith) ps fall.0)
 
     go : (p.index ≡ m) ⊎ ((p.index < m) ⊎ (m < p.index)) →
@@ -163,16 +163,16 @@ loaded_lookup s f m u h l (p ∷ ps) fall good e = go (cases_order p.index m) (l
         ∙ sym (ap (λ (z : List Record). record_of u h z) (newest_skip s (in_first (suc m)) u p ps (le-ltb p.index (suc m) (omega arith))))
 
 -- the records of a file stand under the books' keys
-pub in_file_among : (s : Setting) (m : ℕ) (ps : List Pub) → All (Good s) ps → All (λ r. has r (keys s.terms) ≡ true) (in_file m ps)
+pub in_file_among : (s : Setting) (m : ℕ) (ps : List Pub) → AllByRecursion (Good s) ps → AllByRecursion (λ r. has r (keys s.terms) ≡ true) (in_file m ps)
 in_file_among s m [] g = tt
 in_file_among s m (p ∷ ps) g = go (eqb p.index m) (in_file_among s m ps g.1)
   where
-    go : (b : Bool) → All (λ r. has r (keys s.terms) ≡ true) (in_file m ps) → All (λ r. has r (keys s.terms) ≡ true) (cond b (in_file m ps ++ p.curve) (in_file m ps))
+    go : (b : Bool) → AllByRecursion (λ r. has r (keys s.terms) ≡ true) (in_file m ps) → AllByRecursion (λ r. has r (keys s.terms) ≡ true) (cond b (in_file m ps ++ p.curve) (in_file m ps))
     go true ih = All-append (λ r. has r (keys s.terms) ≡ true) (in_file m ps) p.curve ih (curve_among s.terms p.book p.curve g.0.there g.0.whole)
     go false ih = ih
 
 -- and lines can bear them
-pub in_file_bears : (s : Setting) (m : ℕ) (ps : List Pub) → All (Good s) ps → every_record can_bear (in_file m ps) ≡ true
+pub in_file_bears : (s : Setting) (m : ℕ) (ps : List Pub) → AllByRecursion (Good s) ps → every_record can_bear (in_file m ps) ≡ true
 in_file_bears s m [] g = refl
 in_file_bears s m (p ∷ ps) g = go (eqb p.index m) (in_file_bears s m ps g.1)
   where

@@ -1,7 +1,7 @@
 -- The sealed files are those that the calls tell.
 use Rattle.std.proofs.Common.{◌≡◌, ℕ, ◌<◌, Bool, true, false, cond, ◌&&◌, eqb, ◌⊎◌, List, [], ◌∷◌, ◌++◌, length, get_or, Some, None, Option, sym, refl, ap, ◌∙◌, subst, ap₂, inl, inr, arith}
 use Rattle.std.proofs.lemmas.Bool.{both_ways, cases_order, eq-eqb, ne_eqb, not-false}
-use Rattle.std.specs.List.{AllByRecursion as All}
+use Rattle.std.specs.List.{AllByRecursion}
 use Rattle.closing.proofs.Passing.{passed}
 use Rattle.f5d.specs.Names.{Name}
 use Rattle.f5d.specs.Records.{Record}
@@ -51,7 +51,7 @@ name_at_place ns p i s n lt = go (cases_order p.index i)
         ne_eqb p.index i (λ e. omega arith)
         ∙ sym (ap (λ m. same_name m (get_or ns i no_name)) (sym n.1) ∙ after_differs (get_or ns p.index no_name) (get_or ns i no_name) (sorted_at ns i p.index s l n.0))
 
-by_place : (ns : List Name) (ps : List Pub) (i : ℕ) → Sorted ns → All (Named ns) ps → i < length ns → in_file i ps ≡ under_name (get_or ns i no_name) ps
+by_place : (ns : List Name) (ps : List Pub) (i : ℕ) → Sorted ns → AllByRecursion (Named ns) ps → i < length ns → in_file i ps ≡ under_name (get_or ns i no_name) ps
 by_place ns [] i s a lt = refl
 by_place ns (p ∷ ps) i s a lt =
     ap₂ (λ (b : Bool) (z : List Record). cond b (z ++ p.curve) z) (name_at_place ns p i s a.0 lt) (by_place ns ps i s a.1 lt)

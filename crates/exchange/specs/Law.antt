@@ -1,6 +1,6 @@
 -- What an office and its retailer can rely on, after any list of calls.
 use Rattle.std.specs.Prelude.{◌≡◌, ℕ, ◌<◌, ◌≤◌, Bool, true, false, cond, not, ◌&&◌, List, [], ◌∷◌, Some, None, Option, nat_eq}
-use Rattle.std.specs.List.{AllByRecursion as All}
+use Rattle.std.specs.List.{AllByRecursion}
 use Rattle.book.specs.BookLaw.{energy_at}
 use Rattle.book.specs.Books as books
 use Rattle.book.specs.Books.{bill_of, case_of, is_book, some_of, sum_of}
@@ -23,7 +23,7 @@ all_apart e (x ∷ xs) = not (some_of (e x) xs) && all_apart e xs
 -- books begun rightly, with different numbers and for different supplies, well-formed codes, and a place in the ledger for
 -- every hour of the books; all books are unused, the ledger is empty, and there is no file (`start`)
 pub record Fits (s : Setting) : Type 0 where
-  pub begun : All (λ t. is_book t ≡ true) s.terms
+  pub begun : AllByRecursion (λ t. is_book t ≡ true) s.terms
   pub numbers : all_apart (λ t u. nat_eq t.number u.number) s.terms ≡ true
   pub supplies : all_apart (λ t u. same t.supply u.supply) s.terms ≡ true
   pub distributor : is_participant s.distributor ≡ true

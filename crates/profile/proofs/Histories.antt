@@ -1,6 +1,6 @@
 -- A history whose hours rise, and what is found in it.
 use Rattle.std.proofs.Common.{◌≡◌, ℕ, zero, suc, ◌<◌, true, eqb, ltb, List, [], ◌∷◌, Some, None, refl, ap, ◌∙◌, ⊎_elim, not-suc-le-zero, arith}
-use Rattle.std.specs.List.{ContainsAt as Has, AllByRecursion as All}
+use Rattle.std.specs.List.{ContainsAt as Has, AllByRecursion}
 use Rattle.std.proofs.ByRecursion.{All-get_or, All-weaker}
 use Rattle.std.proofs.lemmas.Bool.{and_parts, cases_Bool, cond-false, cond-true, eq-eqb, eqb-true, ltb-true, ne_eqb}
 use Rattle.official_time.specs.declared.hour.Hour.{Hour}
@@ -11,7 +11,7 @@ use Rattle.vocabulary.specs.declared.energy.Wh.{Wh}
 use Rattle.profile.specs.Rules.{after, energy_at}
 
 -- the test for rising hours says that the entries are in order
-pub rising_from : (n : ℕ) (ps : List (Place Hour Wh)) → after n ps ≡ true → All (λ p. n < p.key.number) ps × Rising Earlier ps
+pub rising_from : (n : ℕ) (ps : List (Place Hour Wh)) → after n ps ≡ true → AllByRecursion (λ p. n < p.key.number) ps × Rising Earlier ps
 rising_from n [] t = (tt, tt)
 rising_from n (p ∷ ps) t =
     let q = and_parts (ltb n p.key.number) (after p.key.number ps) t in

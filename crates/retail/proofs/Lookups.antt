@@ -1,7 +1,7 @@
 -- Looking up in a list of records after some were put, and how long it can get.
 use Rattle.std.proofs.Common.{◌≡◌, ℕ, suc, ◌+◌, ◌≤◌, Bool, true, false, cond, not, ◌&&◌, ◌||◌, eqb, ltb, ◌⊎◌, List, [], ◌∷◌, ◌++◌, length, is_some, Some, None, Option, sym, refl, ap, ◌∙◌, subst, ap₂, inl, inr, ⊎_elim, arith}
 use Rattle.std.proofs.lemmas.Bool.{and_from, and_left, and_parts, and_right, both_ways, cases_Bool, cond-false, cond-true, eq-eqb, eqb-true, ltb-true, ne_eqb, not-true, or_cases, or_left, or_right}
-use Rattle.std.specs.List.{AllByRecursion as All}
+use Rattle.std.specs.List.{AllByRecursion}
 use Rattle.f5d.proofs.Turns.{same_itself, same_true, same_turned}
 use Rattle.f5d.specs.Records.{apart, follows_on, in_turn, Record, same}
 use Rattle.retail.specs.Ledgers.{put, put_all, record_of, same_key}
@@ -206,7 +206,7 @@ fits_put r qs ks e le = go (has r qs) refl
         let m = covered_more r qs ks e t in
         omega arith
 
-pub fits_put_all : (rs qs ks : List Record) → All (λ r. has r ks ≡ true) rs → length qs ≤ covered qs ks → length (put_all rs qs) ≤ covered (put_all rs qs) ks
+pub fits_put_all : (rs qs ks : List Record) → AllByRecursion (λ r. has r ks ≡ true) rs → length qs ≤ covered qs ks → length (put_all rs qs) ≤ covered (put_all rs qs) ks
 fits_put_all [] qs ks e le = le
 fits_put_all (r ∷ rs) qs ks e le = fits_put_all rs (put r qs) ks e.1 (fits_put r qs ks e.0 le)
 

@@ -1,7 +1,7 @@
 -- Entries in key order: what stands in a list, and what a list lacks.
 use Rattle.std.proofs.Common.{◌≡◌, ℕ, zero, suc, ◌+◌, ◌<◌, ◌⊎◌, List, [], ◌∷◌, length, get_or, take, drop, Ordering, Less, Equal, Greater, sym, refl, ap, ◌∙◌, subst, inl, inr, ⊎_elim, not-suc-le-zero, add-one, arith}
 use Rattle.std.specs.Ordering.{MatchOrdering}
-use Rattle.std.specs.List.{ContainsAt as Has, AllByRecursion as All}
+use Rattle.std.specs.List.{ContainsAt as Has, AllByRecursion}
 use Rattle.std.proofs.ByRecursion.{all-has, All-weaker}
 use Rattle.std.proofs.lemmas.List.{drop_all, get_or_default}
 use Rattle.sorted_table.specs.Orders.{TotalOrder}
@@ -39,14 +39,14 @@ module _ {K : Type 0} {before : K → K → Type 0} (order : TotalOrder before) 
 
 module _ {K V : Type 0} {before : K → K → Type 0} (order : TotalOrder before) where
   -- what is before k is before all that k is before
-  pub all_behind : (a k : K) (xs : List (Place K V)) → before a k → All (λ y. before k y.key) xs → All (λ y. before a y.key) xs
+  pub all_behind : (a k : K) (xs : List (Place K V)) → before a k → AllByRecursion (λ y. before k y.key) xs → AllByRecursion (λ y. before a y.key) xs
   all_behind a k xs h = All-weaker (λ y. before k y.key) (λ y. before a y.key) (λ y b. order.transitive a k y.key h b) xs
 
   -- the keys up to one that is before k are before k
-  pub front_before : (k : K) (xs : List (Place K V)) (i : ℕ) → Rising before xs → Stands before (drop i xs) k Less → All (λ x. before x.key k) (take (i + 1) xs)
+  pub front_before : (k : K) (xs : List (Place K V)) (i : ℕ) → Rising before xs → Stands before (drop i xs) k Less → AllByRecursion (λ x. before x.key k) (take (i + 1) xs)
   front_before k xs i up s = rw add-one (go xs i up s)
     where
-      go : (ys : List (Place K V)) (j : ℕ) → Rising before ys → Stands before (drop j ys) k Less → All (λ x. before x.key k) (take (suc j) ys)
+      go : (ys : List (Place K V)) (j : ℕ) → Rising before ys → Stands before (drop j ys) k Less → AllByRecursion (λ x. before x.key k) (take (suc j) ys)
       go [] j up s = tt
       go (x ∷ ys) zero up s = (s, tt)
       go (x ∷ []) (suc zero) up s = let z : ◌≡◌ {A = ℕ} 0 1 = cc in absurd (omega arith)
@@ -54,7 +54,7 @@ module _ {K V : Type 0} {before : K → K → Type 0} (order : TotalOrder before
       go (x ∷ y ∷ ys) (suc j) up s = let a = go (y ∷ ys) j up.1 s in (order.transitive x.key y.key k up.0.0 a.0, a)
 
   -- the keys from one that is not before k are not before k
-  pub back_not_before : (k : K) (xs : List (Place K V)) (r : Ordering) → Rising before xs → Stands before xs k r → (r ≡ Less → ⊥) → All (λ x. before x.key k → ⊥) xs
+  pub back_not_before : (k : K) (xs : List (Place K V)) (r : Ordering) → Rising before xs → Stands before xs k r → (r ≡ Less → ⊥) → AllByRecursion (λ x. before x.key k → ⊥) xs
   back_not_before k [] r up s n = tt
   back_not_before k (x ∷ xs) r up s n =
       let first = not_before order x.key k r s n in
@@ -90,4 +90,4 @@ module _ {K V : Type 0} {before : K → K → Type 0} (order : TotalOrder before
   found_at k xs i x s = let h = has_at k xs i s in (i, h.0, λ d. get_or_default xs i d x h.0 ∙ (λ j. record { key = h.1 x j; value = (get_or xs i x).value }))
 
   pub parted_none : (k : K) (xs : List (Place K V)) → Parted before xs k 0 (length xs)
-  parted_none k xs = record { below = tt; above = subst (All (λ x. before x.key k → ⊥)) (sym (drop_all (length xs) xs (omega arith))) tt }
+  parted_none k xs = record { below = tt; above = subst (AllByRecursion (λ x. before x.key k → ⊥)) (sym (drop_all (length xs) xs (omega arith))) tt }

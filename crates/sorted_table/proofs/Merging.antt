@@ -1,6 +1,6 @@
 -- Merging a run into entries puts the run's entries one by one.
 use Rattle.std.proofs.Common.{◌≡◌, suc, ◌⊎◌, List, [], ◌∷◌, ◌++◌, sym, refl, ap, ◌∙◌, subst, inl, inr, ⊎_elim, arith}
-use Rattle.std.specs.List.{ContainsAt as Has, AllByRecursion as All}
+use Rattle.std.specs.List.{ContainsAt as Has, AllByRecursion}
 use Rattle.std.proofs.ByRecursion.{all-has}
 use Rattle.sorted_table.specs.Orders.{TotalOrder}
 use Rattle.sorted_table.specs.Entries.{entry, Rising, Put, Puts}
@@ -57,11 +57,11 @@ module _ {K V : Type 0} {before : K → K → Type 0} (order : TotalOrder before
   -- ## the whole
 
   -- what is before the whole run stays in front
-  pub merged_front : (front xs : List (Place K V)) (y : Place K V) (ys : List (Place K V)) → All (λ x. before x.key y.key) front → merged order (front ++ xs) (y ∷ ys) ≡ front ++ merged order xs (y ∷ ys)
+  pub merged_front : (front xs : List (Place K V)) (y : Place K V) (ys : List (Place K V)) → AllByRecursion (λ x. before x.key y.key) front → merged order (front ++ xs) (y ∷ ys) ≡ front ++ merged order xs (y ∷ ys)
   merged_front [] xs y ys a = refl
   merged_front (x ∷ front) xs y ys a = merged_old x (front ++ xs) y ys a.0 ∙ ap (λ zs. x ∷ zs) (merged_front front xs y ys a.1)
 
-  merged_first : (x : Place K V) (xs ys : List (Place K V)) → All (λ y. before x.key y.key) ys → merged order (x ∷ xs) ys ≡ x ∷ merged order xs ys
+  merged_first : (x : Place K V) (xs ys : List (Place K V)) → AllByRecursion (λ y. before x.key y.key) ys → merged order (x ∷ xs) ys ≡ x ∷ merged order xs ys
   merged_first x xs [] a = merged_out (x ∷ xs) ∙ ap (λ zs. x ∷ zs) (sym (merged_out xs))
   merged_first x xs (y ∷ ys) a = merged_old x xs y ys a.0
 
@@ -72,7 +72,7 @@ module _ {K V : Type 0} {before : K → K → Type 0} (order : TotalOrder before
   before_one x xs y b = merged_new x xs y [] b ∙ ap (λ zs. y ∷ zs) (merged_out (x ∷ xs))
 
   -- the whole run is put as its first entry and then the rest
-  one_first : (xs : List (Place K V)) (y : Place K V) (ys : List (Place K V)) → All (λ z. before y.key z.key) ys → merged order xs (y ∷ ys) ≡ merged order (merged order xs (y ∷ [])) ys
+  one_first : (xs : List (Place K V)) (y : Place K V) (ys : List (Place K V)) → AllByRecursion (λ z. before y.key z.key) ys → merged order xs (y ∷ ys) ≡ merged order (merged order xs (y ∷ [])) ys
   one_first [] y ys a = merged_none (y ∷ ys) ∙ sym (ap (λ zs. merged order zs ys) (merged_none (y ∷ [])) ∙ merged_first y [] ys a ∙ ap (λ zs. y ∷ zs) (merged_none ys))
   one_first (x ∷ xs) y ys a =
       by_order order x.key y.key
@@ -83,11 +83,11 @@ module _ {K V : Type 0} {before : K → K → Type 0} (order : TotalOrder before
       (λ b. merged_new x xs y ys b ∙ sym (ap (λ zs. merged order zs ys) (before_one x xs y b) ∙ merged_first y (x ∷ xs) ys a))
 
   -- what holds of the entries of both holds of all
-  all_one : (P : Place K V → Type 0) (xs : List (Place K V)) (y : Place K V) → All P xs → P y → All P (merged order xs (y ∷ []))
-  all_one P [] y a p = subst (All P) (sym (merged_none (y ∷ []))) (p, tt)
+  all_one : (P : Place K V → Type 0) (xs : List (Place K V)) (y : Place K V) → AllByRecursion P xs → P y → AllByRecursion P (merged order xs (y ∷ []))
+  all_one P [] y a p = subst (AllByRecursion P) (sym (merged_none (y ∷ []))) (p, tt)
   all_one P (x ∷ xs) y a p =
-      by_order order x.key y.key (λ b. subst (All P) (sym (merged_old x xs y [] b)) (a.0, all_one P xs y a.1 p))
-      (λ e. subst (All P) (sym (over_one x xs y e)) (p, a.1)) (λ b. subst (All P) (sym (before_one x xs y b)) (p, a))
+      by_order order x.key y.key (λ b. subst (AllByRecursion P) (sym (merged_old x xs y [] b)) (a.0, all_one P xs y a.1 p))
+      (λ e. subst (AllByRecursion P) (sym (over_one x xs y e)) (p, a.1)) (λ b. subst (AllByRecursion P) (sym (before_one x xs y b)) (p, a))
 
   module _ (k : K) (v : V) where
     at_end : Put before [] k v (entry k v ∷ [])
@@ -101,7 +101,7 @@ module _ {K V : Type 0} {before : K → K → Type 0} (order : TotalOrder before
     }
 
     module _ (x : Place K V) (xs : List (Place K V)) (up : Rising before (x ∷ xs)) where
-      behind : before x.key k → (ys : List (Place K V)) → All (λ y. before x.key y.key) ys → Put before xs k v ys → Put before (x ∷ xs) k v (x ∷ ys)
+      behind : before x.key k → (ys : List (Place K V)) → AllByRecursion (λ y. before x.key y.key) ys → Put before xs k v ys → Put before (x ∷ xs) k v (x ∷ ys)
       behind b ys a p = record {
         found = has_there x ys (entry k v) p.found;
         kept = λ q w n h. ⊎_elim (has_here x ys (entry q w)) (λ t. has_there x ys (entry q w) (p.kept q w n t)) (has_cases x xs (entry q w) h);
@@ -116,7 +116,7 @@ module _ {K V : Type 0} {before : K → K → Type 0} (order : TotalOrder before
         found = has_here (entry k v) xs (entry k v) refl;
         kept = λ q w n h. ⊎_elim (λ s. absurd (n (sym (ap (λ (p : Place K V). p.key) s) ∙ e))) (has_there (entry k v) xs (entry q w)) (has_cases x xs (entry q w) h);
         no_other = λ q w n h. ⊎_elim (λ s. absurd (n (sym (ap (λ (p : Place K V). p.key) s)))) (has_there x xs (entry q w)) (has_cases (entry k v) xs (entry q w) h);
-        rising = (subst (λ a. All (λ y. before a y.key) xs) e up.0, up.1);
+        rising = (subst (λ a. AllByRecursion (λ y. before a y.key) xs) e up.0, up.1);
         same_count = λ w h. refl;
         one_more = λ lacks. absurd (lacks x.value (has_here x xs (entry k x.value) (λ i. record { key = e i; value = x.value })));
       }

@@ -1,6 +1,6 @@
 -- What a table means: its entries in key order, no key twice; and what finding and putting do to it.
 use Rattle.std.specs.Prelude.{◌≡◌, ℕ, ◌+◌, ◌<◌, ◌≤◌, List, [], ◌∷◌, length, Ok, Err, Result, ◌≢◌}
-use Rattle.std.specs.List.{ContainsAt as Has, AllByRecursion as All}
+use Rattle.std.specs.List.{ContainsAt as Has, AllByRecursion}
 use Rattle.vocabulary.specs.declared.refusal.Refusal.{Refusal}
 use Rattle.vocabulary.specs.Refusals.{notice, plain}
 use Rattle.sorted_table.specs.declared.merge.RunRefused.{RunRefused}
@@ -18,7 +18,7 @@ module _ {K V : Type 0} (before : K → K → Type 0) where
   -- each key is before all the keys that follow it, so no key stands twice
   abbrev pub Rising : List (Place K V) → Type 0
   Rising [] = Unit {0}
-  Rising (x ∷ xs) = All (λ y. before x.key y.key) xs × Rising xs
+  Rising (x ∷ xs) = AllByRecursion (λ y. before x.key y.key) xs × Rising xs
 
   -- the entries ys are the entries xs with v put under k
   pub record Put (xs : List (Place K V)) (k : K) (v : V) (ys : List (Place K V)) : Type 0 where

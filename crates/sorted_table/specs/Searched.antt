@@ -3,7 +3,7 @@ use Rattle.std.specs.Prelude.{◌≡◌, ℕ, List, [], ◌∷◌, take, drop}
 use Rattle.std.specs.declared.cmp.Ordering.TheVariants.{Greater}
 use Rattle.std.specs.declared.cmp.Ordering.{Ordering}
 use Rattle.std.specs.Ordering.{MatchOrdering}
-use Rattle.std.specs.List.{AllByRecursion as All}
+use Rattle.std.specs.List.{AllByRecursion}
 use Rattle.sorted_table.specs.declared.place.Place.{Place}
 
 module _ {K V : Type 0} (before : K → K → Type 0) where
@@ -14,5 +14,5 @@ module _ {K V : Type 0} (before : K → K → Type 0) where
 
   -- the first `low` keys are before k, and those from `high` on are not
   pub record Parted (xs : List (Place K V)) (k : K) (low high : ℕ) : Type 0 where
-    pub below : All (λ x. before x.key k) (take low xs)
-    pub above : All (λ x. before x.key k → ⊥) (drop high xs)
+    pub below : AllByRecursion (λ x. before x.key k) (take low xs)
+    pub above : AllByRecursion (λ x. before x.key k → ⊥) (drop high xs)
