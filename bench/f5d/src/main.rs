@@ -1,6 +1,6 @@
 //! The proved reader of files of records beside a plain one on the same bytes, as ratios from one run.
 //!
-//! The proved one runs in a program of its own, target/bin/f5d_bench, which times itself; the plain one runs here, with
+//! The proved one runs in a program of its own, crates/f5d_bench/out/f5d_bench, which times itself; the plain one runs here, with
 //! the same checks. Both check a file of 720 hours of each supply whole, then go through its records once more, and
 //! have to come to the same count and sum.
 use std::collections::HashSet;

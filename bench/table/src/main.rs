@@ -1,6 +1,6 @@
 //! The proved table beside Rust's BTreeMap on the same keys, as ratios from one run.
 //!
-//! The table runs in a program of its own, target/bin/table_bench, which times itself; the map runs here. Both fill
+//! The table runs in a program of its own, crates/table_bench/out/table_bench, which times itself; the map runs here. Both fill
 //! themselves with 720 hours of each supply, in the same order, and have to come to the same count and sum.
 use std::collections::BTreeMap;
 use std::hint::black_box;

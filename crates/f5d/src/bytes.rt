@@ -1,7 +1,7 @@
 // Classes of bytes, and how many of the first bytes are of one.
 ghost use Rattle.std.specs.Prelude.{◌≡◌, ℕ, ◌+◌, ◌-◌, ◌*◌, ◌%◌, ◌^◌, ◌<◌, ◌≤◌, Bool, true, false, ◌&&◌, List, ◌++◌, length, ◌==◌, slice_index};
 ghost use Rattle.f5d.specs.Buffers.{over};
-ghost use Rattle.f5d.specs.Reading.{digit, ends_at, leading as leading_of, number as number_of_lem, pair, pair_number};
+ghost use Rattle.f5d.specs.Reading.{digit, ends_at, leading as leading_of, number as number_of, pair, pair_number};
 ghost use Rattle.vocabulary.specs.Codes.{every, visible};
 
 pub(crate) trait Class: Copy {
@@ -68,7 +68,7 @@ pub(crate) fn ends_at(bytes: &[u8], place: usize) -> bool
 // The number that at most ten digits write.
 pub(crate) fn number(digits: &[u8]) -> u64
     requires { (length digits.now ≤ 10) × (every digit digits.now ≡ true) }
-    ensures value { result ≡ number_of_lem 0 digits.now }
+    ensures value { result ≡ number_of 0 digits.now }
     ensures bound { result < 10 ^ length digits.now }
 {
     let mut number: u64 = 0;

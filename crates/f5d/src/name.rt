@@ -3,7 +3,7 @@ ghost use Rattle.std.specs.Prelude.{◌≡◌, ℕ, ◌+◌, ◌*◌, ◌<◌, �
 ghost use Rattle.f5d.specs.Buffers.{over};
 ghost use Rattle.f5d.specs.FileNames.{name_of, name_told, three_digits};
 ghost use Rattle.f5d.specs.Names.{comes_next, date_digits, IsName, Name, name_text, named_behind, read_name, version_written, word_text};
-ghost use Rattle.f5d.specs.Reading.{digit, leading as leading_of, number as number_of_lem, pair, pair_number};
+ghost use Rattle.f5d.specs.Reading.{digit, leading as leading_of, number as number_of, pair, pair_number};
 ghost use Rattle.f5d.specs.Records.{same};
 ghost use Rattle.official_time.specs.Dates.{day_of, on};
 ghost use Rattle.vocabulary.specs.Refusals.{notice, plain};
@@ -117,7 +117,7 @@ fn is_numeral(text: &[u8]) -> bool
 
 // The version that a text writes.
 fn version_of(text: &[u8]) -> Option<u8>
-    ensures { MatchOption result (version_written text.now ≡ false) (λ v. (version_written text.now ≡ true) × (v ≡ number_of_lem 0 text.now)) }
+    ensures { MatchOption result (version_written text.now ≡ false) (λ v. (version_written text.now ≡ true) × (v ≡ number_of 0 text.now)) }
 {
     if !is_numeral(text) {
         return None;

@@ -2,7 +2,7 @@
 ghost use Rattle.std.specs.Prelude.{◌≡◌, ℕ, suc, ◌+◌, ◌-◌, ◌<◌, ◌≤◌, true, false, not, ◌&&◌, ◌||◌, List, length, take, drop, IfOk, if◌then◌else◌, MatchOption, OnOk, ◌==◌, nat_le, slice_index};
 ghost use Rattle.f5d.specs.Meanings.{invoice_text};
 ghost use Rattle.f5d.specs.Methods.{firmness_number, method_number};
-ghost use Rattle.f5d.specs.Reading.{clock_written, digit, ends_at, label_under, LineRead, RightLine, leading as leading_of, number as number_of_lem, one_digit, bad, read_empty, read_energy, read_label, read_line, read_method};
+ghost use Rattle.f5d.specs.Reading.{clock_written, digit, ends_at, label_under, LineRead, RightLine, leading as leading_of, number as number_of, one_digit, bad, read_empty, read_energy, read_label, read_line, read_method};
 ghost use Rattle.f5d.specs.Told.{billed_told, clock_right, energy_right, flag_right, flag_written, hour_told, invoice_right, line_told, place_of};
 ghost use Rattle.official_time.specs.Hours.{is_label, meant};
 ghost use Rattle.vocabulary.specs.Codes.{is_supply, visible};
@@ -145,7 +145,7 @@ fn hour_field(bytes: &[u8]) -> Result<Hour, Field>
 
 // D: at most ten digits, and no 0 before others; with the count of its digits.
 fn energy_field(bytes: &[u8]) -> Option<EnergyField>
-    ensures { MatchOption result (energy_right bytes.now ≡ false) (λ x. (energy_right bytes.now ≡ true) × (x.count ≡ leading_of digit 10 bytes.now) × (x.energy.0 ≡ number_of_lem 0 (take x.count bytes.now)) × (x.energy.0 ≤ 9999999999) × (x.count < length bytes.now)) }
+    ensures { MatchOption result (energy_right bytes.now ≡ false) (λ x. (energy_right bytes.now ≡ true) × (x.count ≡ leading_of digit 10 bytes.now) × (x.energy.0 ≡ number_of 0 (take x.count bytes.now)) × (x.energy.0 ≤ 9999999999) × (x.count < length bytes.now)) }
 {
     let count = leading(Digit, 10, bytes);
     if count == 0 || !ends_at(bytes, count) {

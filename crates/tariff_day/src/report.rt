@@ -3,7 +3,7 @@ ghost use Rattle.std.specs.Prelude.{◌≡◌, ℕ, true, List, ◌++◌, Some, 
 ghost use Rattle.official_time.specs.Hours.{IsLabel};
 ghost use Rattle.tariff_day.specs.Report.{Answers, DayText, hour_line, IsDay, line_text};
 ghost use Rattle.vocabulary.specs.Refusals.{notice, plain};
-ghost use Rattle.tariff.specs.Rules.{period_20a, period_20dha, period_20td};
+ghost use Rattle.tariff.specs.Rules.{period_20a as rule_20a, period_20dha as rule_20dha, period_20td as rule_20td};
 
 use official_time::{Date, Day, DayHours, Hour, Label};
 use std::alloc::AllocError;
@@ -25,7 +25,7 @@ impl HourLine {
     fn of(td: &Calendar20Td, hour: Hour) -> HourLine
         ensures hour { result.hour.number ≡ hour.number }
         ensures label { IsLabel hour.number result.label }
-        ensures periods { (result.period_20a ≡ period_20a hour.number) × (result.period_20dha ≡ period_20dha hour.number) × (result.period_20td ≡ period_20td td.now.holidays.days.now hour.number) }
+        ensures periods { (result.period_20a ≡ rule_20a hour.number) × (result.period_20dha ≡ rule_20dha hour.number) × (result.period_20td ≡ rule_20td td.now.holidays.days.now hour.number) }
     {
         HourLine {
             hour,
