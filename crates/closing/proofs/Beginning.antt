@@ -2,12 +2,13 @@
 use Rattle.std.proofs.Common.{◌≡◌, ℕ, ◌+◌, ◌*◌, ◌<◌, ◌≤◌, Bool, true, false, cond, not, ◌&&◌, eqb, get_or, is_some, Some, None, Option, unwrap_or, sym, refl, ap, ◌∙◌, subst, ap₂, mul-le-mul_left, arith}
 use Rattle.std.proofs.lemmas.Bool.{cond_both, true≢false}
 use Rattle.closing.specs.Closing.{Billed, billed_wh, Case, count, energy_read, lies, missing_in, missing_method, read_in, was_read, weighed}
-use Rattle.closing.specs.Lent.{figures_of}
-use Rattle.closing.specs.Periods.{count_by, in_group, InLimits, origin_number, own_weight, SharingAt, to_share, total_by, weights_by}
+use Rattle.closing.specs.Lent.{figures_of, Totals, totals}
+use Rattle.closing.specs.Periods.{count_by, in_group, own_weight, SharingAt, to_share, total_by, weights_by}
+use Rattle.vocabulary.specs.Methods.{method_number}
 use Rattle.closing.specs.Sharing.{below}
 use Rattle.closing.specs.Testing.{rule_by, rule_of}
 use Rattle.closing.specs.declared.figures.Figures.{Figures}
-use Rattle.closing.specs.declared.period.Origin.{Origin}
+use Rattle.vocabulary.specs.declared.method.Method.{Method}
 use Rattle.closing.specs.declared.rule.Rule.{Rule}
 use Rattle.closing.specs.declared.rule.Rule.TheVariants.{Keep, Rescale, Fill, CutDown}
 use Rattle.closing.specs.declared.share.Share.{Share}
@@ -44,9 +45,6 @@ module _ (c : Case) (b : Billed) (p : ℕ) where
       sym (below_add (λ j. cond (read_in c p j) 1 0) (λ j. cond (missing_in c p j) 1 0) (count c))
       ∙ below_cong (λ j. cond (read_in c p j) 1 0 + cond (missing_in c p j) 1 0) (λ j. cond (lies c p j) 1 0) (count c) (λ j _. part_entry (lies c p j) (was_read c j))
 
-  pub missing_part : (figures_of c p).missing ≤ (figures_of c p).hours
-  missing_part = let e = parts in omega arith
-
   total_is : (r : Rule) → total_by r (figures_of c p) (billed_wh c b p) ≡ to_share c b p r
   total_is Keep = refl
   total_is Rescale = refl
@@ -71,33 +69,43 @@ module _ (c : Case) (b : Billed) (p : ℕ) where
       ap₂ (λ x y. cond (eqb x 0) y x) (weights_are r) (count_is r)
       ∙ either_below (eqb S 0) (λ j. cond (in_group c b p r j) 1 0) (λ j. cond (in_group c b p r j) (own_weight c b p r j) 0) (count c)
 
-total_small : (r : Rule) (f : Figures) (k : ℕ) → k ≤ 82500 → total_by r f (1000 * k) ≤ 82500000
+total_small : (r : Rule) (f : Totals) (k : ℕ) → k ≤ 82500 → total_by r f (1000 * k) ≤ 82500000
 total_small Keep f k h = omega arith
 total_small Rescale f k h = omega arith
 total_small Fill f k h = omega arith
 total_small CutDown f k h = omega arith
 
-sum_small : (r : Rule) (f : Figures) → InLimits f → cond (eqb (weights_by r f) 0) (count_by r f) (weights_by r f) ≤ 1500000000
-sum_small Keep f l = cond_both (eqb (weights_by Keep f) 0) (count_by Keep f) (weights_by Keep f) (λ x. x ≤ 1500000000) (λ _. omega arith) (λ _. omega arith)
-sum_small Rescale f l = cond_both (eqb (weights_by Rescale f) 0) (count_by Rescale f) (weights_by Rescale f) (λ x. x ≤ 1500000000) (λ _. omega (arith, l.few)) (λ _. omega (arith, l.small))
-sum_small Fill f l = cond_both (eqb (weights_by Fill f) 0) (count_by Fill f) (weights_by Fill f) (λ x. x ≤ 1500000000) (λ _. omega (arith, l.few, l.some)) (λ _. omega (arith, l.light))
-sum_small CutDown f l = cond_both (eqb (weights_by CutDown f) 0) (count_by CutDown f) (weights_by CutDown f) (λ x. x ≤ 1500000000) (λ _. omega (arith, l.few)) (λ _. omega (arith, l.small))
+sum_small : (r : Rule) (f : Figures) → cond (eqb (weights_by r (totals f)) 0) (count_by r (totals f)) (weights_by r (totals f)) ≤ 1500000000
+sum_small r f = cond_both (eqb (weights_by r (totals f)) 0) (count_by r (totals f)) (weights_by r (totals f)) (λ x. x ≤ 1500000000) (λ _. counts r) (λ _. weighs r)
+  where
+    counts : (r : Rule) → count_by r (totals f) ≤ 1500000000
+    counts Keep = omega arith
+    counts Rescale = omega (arith, f.few)
+    counts Fill = omega (arith, f.few, f.part)
+    counts CutDown = omega (arith, f.few)
+
+    weighs : (r : Rule) → weights_by r (totals f) ≤ 1500000000
+    weighs Keep = omega arith
+    weighs Rescale = omega (arith, f.few, f.small)
+    weighs Fill = omega (arith, f.few, f.part, f.light)
+    weighs CutDown = omega (arith, f.few, f.small)
 
 product_fits : (x y : ℕ) → x ≤ 82500000 → y ≤ 1500000000 → x * y < 18446744073709551616
 product_fits x y hx hy =
     let a : x * y ≤ x * 1500000000 = mul-le-mul_left x hy in
     omega arith
 
-pub begun : (c : Case) (b : Billed) (p : ℕ) (r : Rule) (f : Figures) (k : ℕ) → InLimits f → k ≤ 82500 → f ≡ figures_of c p → k ≡ b.kwh p → r ≡ rule_by f.missing f.read (1000 * k) →
-    (s : Share) → s.total ≡ total_by r f (1000 * k) → s.sum ≡ cond (eqb (weights_by r f) 0) (count_by r f) (weights_by r f) → s.past ≡ 0 →
-    (m : Origin) → origin_number m ≡ missing_method c b b.source → (v : ℕ) → v ≡ weights_by r f → SharingAt c b p 0 (record { rule = r; even = eqb v 0; share = s; missing = m })
-begun c b p r f k lim small ef ek er s et es ep m em v ev =
+pub begun : (c : Case) (b : Billed) (p : ℕ) (r : Rule) (f : Figures) (k : ℕ) → k ≤ 82500 → totals f ≡ figures_of c p → k ≡ b.kwh p → r ≡ rule_by f.missing f.read (1000 * k) →
+    (s : Share) → s.total ≡ total_by r (totals f) (1000 * k) → s.even ≡ eqb (weights_by r (totals f)) 0 →
+    s.sum ≡ cond (eqb (weights_by r (totals f)) 0) (count_by r (totals f)) (weights_by r (totals f)) → s.past ≡ 0 → (m : Method) → method_number m ≡ missing_method c b b.source →
+    SharingAt c b p 0 (record { rule = r; share = s; missing = m })
+begun c b p r f k small ef ek er s et ev es ep m em =
     record {
       rule = ap rule_of er ∙ ap₂ (λ x y. rule_of (rule_by x.missing x.read (1000 * y))) ef ek ∙ rule_is c b p;
-      even = ap (λ x. eqb x 0) (ev ∙ ap (weights_by r) ef ∙ weights_are c b p r);
+      even = ev ∙ ap (λ x. eqb x 0) (ap (weights_by r) ef ∙ weights_are c b p r);
       total = et ∙ ap₂ (λ x y. total_by r x (1000 * y)) ef ek ∙ total_is c b p r;
       sum = es ∙ ap (λ x. cond (eqb (weights_by r x) 0) (count_by r x) (weights_by r x)) ef ∙ sum_is c b p r;
       past = ep;
       missing = em;
-      fits = product_fits s.total s.sum (subst (λ x. x ≤ 82500000) (sym et) (total_small r f k small)) (subst (λ x. x ≤ 1500000000) (sym es) (sum_small r f lim));
+      fits = product_fits s.total s.sum (subst (λ x. x ≤ 82500000) (sym et) (total_small r (totals f) k small)) (subst (λ x. x ≤ 1500000000) (sym es) (sum_small r f));
     }

@@ -5,9 +5,10 @@ use Rattle.vocabulary.specs.declared.energy.Wh.{Wh}
 use Rattle.closing.specs.Closing.{Billed, Case, closed_hour, count, energy_read, lies, missing_hour, missing_method, period_at, read_hour, rule, was_read, weighed}
 use Rattle.closing.specs.Closing as rules
 use Rattle.closing.specs.Lent.{in_wh}
-use Rattle.closing.specs.Periods.{Due, in_group, own_weight, SharingAt, to_share}
+use Rattle.closing.specs.Periods.{closed_of, Due, in_group, own_weight, SharingAt, to_share}
 use Rattle.closing.specs.Sharing.{below, portion}
 use Rattle.closing.specs.Testing.{alters, completes, rule_of}
+use Rattle.vocabulary.specs.declared.method.Method.{Method}
 use Rattle.closing.specs.declared.period.PeriodShare.{PeriodShare}
 use Rattle.closing.specs.declared.rule.Rule.{Rule}
 use Rattle.closing.specs.declared.rule.Rule.TheVariants.{Keep, Rescale, Fill, CutDown}
@@ -20,6 +21,14 @@ below_grows f (suc n) k l = ⊎_elim (λ e. let h = ap (below f) e in omega arit
 
 inside_weight : (n : ℕ) (G : ℕ → Bool) (w : ℕ → ℕ) (i : ℕ) → G i ≡ true → group_weight n G w i ≡ cond (eqb (below (λ j. cond (G j) (w j) 0) n) 0) 1 (w i)
 inside_weight n G w i h = ap (λ x. cond (eqb (below (λ j. cond (G j) (w j) 0) n) 0) (cond x 1 0) (cond x (w i) 0)) h
+
+-- what is given and where that leaves the sharing, by what they are equal to
+module _ (c : Case) (b : Billed) (p i : ℕ) where
+  abbrev Gives : Wh × Method → Type 0
+  Gives x = closed_of (record { energy = x.0; method = x.1 }) ≡ closed_hour c b i
+
+  pub given : (x y : Wh × Method) (s t : PeriodShare) → x ≡ y → s ≡ t → Gives y → SharingAt c b p (i + 1) t → Gives x × SharingAt c b p (i + 1) s
+  given x y s t ex es gives at = (subst Gives (sym ex) gives, subst (SharingAt c b p (i + 1)) (sym es) at)
 
 module _ (c : Case) (b : Billed) (p : ℕ) where
   -- ## Which hours share
@@ -145,41 +154,42 @@ module _ (c : Case) (b : Billed) (p : ℕ) where
         let f = missing_flag_of h in
         (group_missing s.rule i a d.here f, own_missing s.rule i a ∙ sym (d.weight ∙ ap (λ x. cond x (energy_read c i) (rules.weight c i)) f))
 
-    module _ (v : ℕ) (counted : v ≡ cond s.even 1 w) where
-      weight_is : Takes → weight_by s.rule i ≡ v
-      weight_is t =
-          inside_weight (count c) (in_group c b p s.rule) (own_weight c b p s.rule) i t.0
-          ∙ ap₂ (λ x y. cond x 1 y) (sym d.state.even) t.1 ∙ sym counted
+    -- what the weight counts
+    abbrev counted : ℕ
+    counted = cond s.share.even 1 w
 
-      pub may_take : Takes → (0 < s.share.sum) × ((s.share.past + v ≤ s.share.sum) × (s.share.total * s.share.sum < 18446744073709551616))
-      may_take t =
-          let pos = group_positive (count c) (in_group c b p s.rule) (own_weight c b p s.rule) i d.within t.0 in
-          let up = below_grows (weight_by s.rule) (count c) (suc i) d.within in
-          let e = weight_is t in
-          let a = d.state.past in
-          let z = d.state.sum in
-          (omega arith, (omega arith, d.state.fits))
+    weight_is : Takes → weight_by s.rule i ≡ counted
+    weight_is t = inside_weight (count c) (in_group c b p s.rule) (own_weight c b p s.rule) i t.0 ∙ ap₂ (λ x y. cond x 1 y) (sym d.state.even) t.1
 
-      module _ (t : Takes) (sh : Share) (total : sh.total ≡ s.share.total) (sum : sh.sum ≡ s.share.sum) (past : sh.past ≡ s.share.past + v) where
-        pub moved : SharingAt c b p (i + 1) (record { rule = s.rule; even = s.even; share = sh; missing = s.missing })
-        moved =
-            let same : sh.total * sh.sum ≡ s.share.total * s.share.sum = ap₂ (λ x y. x * y) total sum in
-            record {
-              rule = d.state.rule;
-              even = d.state.even;
-              total = total ∙ d.state.total;
-              sum = sum ∙ d.state.sum;
-              past = past ∙ ap₂ (λ x y. x + y) d.state.past (sym (weight_is t)) ∙ ap (below (weight_by s.rule)) (sym (add-one i));
-              missing = d.state.missing;
-              fits = subst (λ x. x < 18446744073709551616) (sym same) d.state.fits;
-            }
+    pub may_take : Takes → (0 < s.share.sum) × ((s.share.past + counted ≤ s.share.sum) × (s.share.total * s.share.sum < 18446744073709551616))
+    may_take t =
+        let pos = group_positive (count c) (in_group c b p s.rule) (own_weight c b p s.rule) i d.within t.0 in
+        let up = below_grows (weight_by s.rule) (count c) (suc i) d.within in
+        let e = weight_is t in
+        let a = d.state.past in
+        let z = d.state.sum in
+        (omega arith, (omega arith, d.state.fits))
 
-      -- the portion that is taken is the place's
-      pub taken : Takes → (x : ℕ) → ((f : ℕ → ℕ) (n k : ℕ) → below f n ≡ s.share.sum → below f k ≡ s.share.past → f k ≡ v → x ≡ portion s.share.total f n k) →
-          x ≡ portion (to_share c b p s.rule) (weight_by s.rule) (count c) i
-      taken t x h =
-          h (weight_by s.rule) (count c) i (sym d.state.sum) (sym d.state.past) (weight_is t)
-          ∙ ap (λ y. portion y (weight_by s.rule) (count c) i) d.state.total
+    module _ (t : Takes) (sh : Share) (same : (sh.total ≡ s.share.total) × (sh.even ≡ s.share.even) × (sh.sum ≡ s.share.sum)) (past : sh.past ≡ s.share.past + counted) where
+      pub moved : SharingAt c b p (i + 1) (record { rule = s.rule; share = sh; missing = s.missing })
+      moved =
+          let fits : sh.total * sh.sum ≡ s.share.total * s.share.sum = ap₂ (λ x y. x * y) same.0 same.2 in
+          record {
+            rule = d.state.rule;
+            even = same.1 ∙ d.state.even;
+            total = same.0 ∙ d.state.total;
+            sum = same.2 ∙ d.state.sum;
+            past = past ∙ ap₂ (λ x y. x + y) d.state.past (sym (weight_is t)) ∙ ap (below (weight_by s.rule)) (sym (add-one i));
+            missing = d.state.missing;
+            fits = subst (λ x. x < 18446744073709551616) (sym fits) d.state.fits;
+          }
+
+    -- the portion that is taken is the place's
+    pub taken : Takes → (x : ℕ) → ((f : ℕ → ℕ) (n k : ℕ) → below f n ≡ s.share.sum → below f k ≡ s.share.past → f k ≡ counted → x ≡ portion s.share.total f n k) →
+        x ≡ portion (to_share c b p s.rule) (weight_by s.rule) (count c) i
+    taken t x h =
+        h (weight_by s.rule) (count c) i (sym d.state.sum) (sym d.state.past) (weight_is t)
+        ∙ ap (λ y. portion y (weight_by s.rule) (count c) i) d.state.total
 
     pub closes_shared_read : (e : Wh) → o ≡ Some e → alters s.rule ≡ true → (x : ℕ) → x ≡ portion (to_share c b p s.rule) (weight_by s.rule) (count c) i →
         (x, 3) ≡ closed_hour c b i

@@ -4,9 +4,11 @@ use Rattle.std.proofs.lemmas.Bool.{cases_eq, eq-eqb, ne_eqb, true≢false}
 use Rattle.profile.specs.Weights.{Weights}
 use Rattle.tariff.specs.Timetables.{Timetable}
 use Rattle.vocabulary.specs.declared.energy.Wh.{Wh}
-use Rattle.closing.specs.Closing.{Billed, Case, closed_hour, lies}
-use Rattle.closing.specs.Lent.{case_of, in_wh}
+use Rattle.closing.specs.Cases.{case_in}
+use Rattle.closing.specs.Closing.{Billed, Case, closed_hour, lies, period_at}
+use Rattle.closing.specs.Lent.{in_wh}
 use Rattle.closing.specs.Periods.{closed_of, Due, PeriodClosed, SharingAt, weight_by}
+use Rattle.closing.specs.declared.billing_period.BillingPeriod.{BillingPeriod}
 use Rattle.closing.specs.declared.period.ClosedHour.{ClosedHour}
 use Rattle.closing.specs.declared.period.PeriodShare.{PeriodShare}
 use Rattle.closing.proofs.Figuring.{energies_at, energies_length}
@@ -16,23 +18,20 @@ weight_is_by : (w : Option ℕ) (o : Option Wh) → weight_by w o ≡ cond (is_s
 weight_is_by w (Some e) = refl
 weight_is_by w None = refl
 
-module _ (first : ℕ) (hs : List (Option Wh)) (t : Timetable) (w : Weights) (p : ℕ) (b : Billed) where
+module _ {C P : Type 0} (t : C → Timetable) (w : P → Weights) (s : BillingPeriod C P) (p : ℕ) (b : Billed) where
   abbrev c : Case
-  c = case_of first hs t w
+  c = case_in t w s
 
-  pub due : (i q v : ℕ) (s : PeriodShare) → SharingAt c b p i s → i < length hs → q ≡ t.period (first + i) → q ≡ p → v ≡ weight_by (w.weight (first + i)) (get_or hs i None) →
-      Due c b p i s (get_or hs i None) v
-  due i q v s at l asked here ev =
+  pub due : (i q v : ℕ) (sh : PeriodShare) → SharingAt c b p i sh → i < length s.hours.now → q ≡ period_at c i → q ≡ p →
+      v ≡ weight_by ((w s.profile.now).weight (s.first.number + i)) (get_or s.hours.now i None) → Due c b p i sh (get_or s.hours.now i None) v
+  due i q v sh at l asked here ev =
       record {
         state = at;
-        within = subst (λ n. i < n) (sym (energies_length hs)) l;
-        here = eq-eqb (t.period (first + i)) p (sym asked ∙ here);
-        hour = energies_at hs i;
-        weight = ev ∙ weight_is_by (w.weight (first + i)) (get_or hs i None) ∙ ap (λ o. cond (is_some o) (unwrap_or o 0) (unwrap_or (w.weight (first + i)) 0)) (sym (energies_at hs i));
+        within = subst (λ n. i < n) (sym (energies_length s.hours.now)) l;
+        here = eq-eqb (period_at c i) p (sym asked ∙ here);
+        hour = energies_at s.hours.now i;
+        weight = ev ∙ weight_is_by ((w s.profile.now).weight (s.first.number + i)) (get_or s.hours.now i None) ∙ ap (λ o. cond (is_some o) (unwrap_or o 0) (unwrap_or ((w s.profile.now).weight (s.first.number + i)) 0)) (sym (energies_at s.hours.now i));
       }
-
-  pub none_written : (ps : List ClosedHour) → PeriodClosed c b p 0 ps ps
-  none_written ps = record { same_length = refl; closed = λ i d l. absurd (omega arith); others = λ i d l. refl; beyond = λ i d l. refl }
 
   pub written : (i : ℕ) (before ps : List ClosedHour) (h : ClosedHour) → PeriodClosed c b p i before ps → lies c p i ≡ true → closed_of h ≡ closed_hour c b i → i < length ps →
       PeriodClosed c b p (i + 1) before (set ps i h)
@@ -56,8 +55,8 @@ module _ (first : ℕ) (hs : List (Option Wh)) (t : Timetable) (w : Weights) (p 
       }
 
   -- the turn of a place that lies elsewhere
-  pub turn_elsewhere : (i q : ℕ) (s : PeriodShare) (before ps : List ClosedHour) → q ≡ t.period (first + i) → (q ≡ p → ⊥) → SharingAt c b p i s → PeriodClosed c b p i before ps →
-      SharingAt c b p (i + 1) s × PeriodClosed c b p (i + 1) before ps
-  turn_elsewhere i q s before ps asked away at done =
-      let out = ne_eqb (t.period (first + i)) p (λ e. away (asked ∙ e)) in
-      (stays c b p i s at (group_outside c b p s.rule i out), skipped i before ps done out)
+  pub turn_elsewhere : (i q : ℕ) (sh : PeriodShare) (before ps : List ClosedHour) → q ≡ period_at c i → (q ≡ p → ⊥) → SharingAt c b p i sh → PeriodClosed c b p i before ps →
+      SharingAt c b p (i + 1) sh × PeriodClosed c b p (i + 1) before ps
+  turn_elsewhere i q sh before ps asked away at done =
+      let out = ne_eqb (period_at c i) p (λ e. away (asked ∙ e)) in
+      (stays c b p i sh at (group_outside c b p sh.rule i out), skipped i before ps done out)

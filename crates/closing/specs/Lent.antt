@@ -25,9 +25,21 @@ pub record Lent (first : ℕ) (hours : List (Option Wh)) : Type 0 where
   pub last : first + length hours ≤ 876600
   pub small : (i : ℕ) → unwrap_or (in_wh (slice_index_or hours i None)) 0 ≤ 55000
 
--- what the places below n of a tariff period come to: its hours, the missing ones, the Wh of the read ones, and of the
--- missing ones the weights and how many have none
-abbrev pub figures_to : Case → ℕ → ℕ → Figures
+-- what a tariff period comes to: its hours, the missing ones, the Wh of the read ones, and of the missing ones the
+-- weights and how many have none
+pub record Totals : Type 0 where
+  pub hours : ℕ
+  pub missing : ℕ
+  pub read : ℕ
+  pub weights : ℕ
+  pub weightless : ℕ
+
+-- the same as the program holds them, within limits
+abbrev pub totals : Figures → Totals
+totals f = record { hours = f.hours; missing = f.missing; read = f.read; weights = f.weights; weightless = f.weightless }
+
+-- what the places below n of a tariff period come to
+abbrev pub figures_to : Case → ℕ → ℕ → Totals
 figures_to c p n =
     record {
       hours = below (λ i. cond (lies c p i) 1 0) n;
@@ -37,14 +49,17 @@ figures_to c p n =
       weightless = below (λ i. cond (missing_in c p i && not (has_weight c i)) 1 0) n;
     }
 
-abbrev pub figures_of : Case → ℕ → Figures
+abbrev pub figures_of : Case → ℕ → Totals
 figures_of c p = figures_to c p (length c.hours)
 
--- one more read hour, and one more missing hour
-abbrev pub with_read : Figures → ℕ → Figures
+-- no hours, one more read hour, and one more missing hour
+abbrev pub no_hours : Totals
+no_hours = record { hours = 0; missing = 0; read = 0; weights = 0; weightless = 0 }
+
+abbrev pub with_read : Totals → ℕ → Totals
 with_read f e = record { hours = f.hours + 1; missing = f.missing; read = f.read + e; weights = f.weights; weightless = f.weightless }
 
-abbrev pub with_missing : Figures → Option ℕ → Figures
+abbrev pub with_missing : Totals → Option ℕ → Totals
 with_missing f w =
     record {
       hours = f.hours + 1;

@@ -6,29 +6,19 @@ use Rattle.vocabulary.specs.declared.refusal.Refusal.{Refusal}
 use Rattle.closing.specs.Billing.{source_number}
 use Rattle.closing.specs.Closing.{Balance, bill, Billed, billed_wh, Case, closed_hour, count, energy_read, lies, missing_in, missing_method, period_at, read_in, read_wh, rule, was_read, weighed}
 use Rattle.closing.specs.Closing as rules
-use Rattle.closing.specs.Lent.{in_wh}
+use Rattle.closing.specs.Lent.{in_wh, Totals}
 use Rattle.closing.specs.Sharing.{below}
 use Rattle.closing.specs.Testing.{rule_of}
 use Rattle.closing.specs.declared.balance.Source.{Source}
-use Rattle.closing.specs.declared.figures.Figures.{Figures}
 use Rattle.closing.specs.declared.period.ClosedHour.{ClosedHour}
-use Rattle.closing.specs.declared.period.Origin.{Origin}
-use Rattle.closing.specs.declared.period.Origin.TheVariants.{Measured, ProfiledFromBalance, AdjustedToBalance, ProfiledFromOwnReading, ProfiledFromHistory, ProfiledFromFactor}
+use Rattle.vocabulary.specs.Methods.{method_number}
 use Rattle.closing.specs.declared.period.PeriodShare.{PeriodShare}
 use Rattle.closing.specs.declared.rule.Rule.{Rule}
 use Rattle.closing.specs.declared.rule.Rule.TheVariants.{Keep, Rescale, Fill, CutDown}
 
-abbrev pub origin_number : Origin → ℕ
-origin_number Measured = 1
-origin_number ProfiledFromBalance = 2
-origin_number AdjustedToBalance = 3
-origin_number ProfiledFromOwnReading = 4
-origin_number ProfiledFromHistory = 5
-origin_number ProfiledFromFactor = 6
-
 -- energy and method
 abbrev pub closed_of : ClosedHour → ℕ × ℕ
-closed_of h = (h.energy.0, origin_number h.origin)
+closed_of h = (h.energy.0, method_number h.method)
 
 module _ (c : Case) (b : Billed) (p : ℕ) where
   -- the hours that share by a rule, by which weights, and what
@@ -53,11 +43,11 @@ module _ (c : Case) (b : Billed) (p : ℕ) where
   -- where the sharing stands once the places below i are closed
   pub record SharingAt (i : ℕ) (s : PeriodShare) : Type 0 where
     pub rule : rule_of s.rule ≡ rule c b p
-    pub even : s.even ≡ (below (λ j. cond (in_group s.rule j) (own_weight s.rule j) 0) (count c) == 0)
+    pub even : s.share.even ≡ (below (λ j. cond (in_group s.rule j) (own_weight s.rule j) 0) (count c) == 0)
     pub total : s.share.total ≡ to_share s.rule
     pub sum : s.share.sum ≡ below (weighed c (in_group s.rule) (own_weight s.rule)) (count c)
     pub past : s.share.past ≡ below (weighed c (in_group s.rule) (own_weight s.rule)) i
-    pub missing : origin_number s.missing ≡ missing_method c b b.source
+    pub missing : method_number s.missing ≡ missing_method c b b.source
     pub fits : s.share.total * s.share.sum < 2 ^ 64
 
   -- place i is to be closed: what was read there and what it weighs
@@ -69,19 +59,19 @@ module _ (c : Case) (b : Billed) (p : ℕ) where
     pub weight : w ≡ cond (was_read c i) (energy_read c i) (rules.weight c i)
 
 -- the same by the figures of the period
-abbrev pub total_by : Rule → Figures → ℕ → ℕ
+abbrev pub total_by : Rule → Totals → ℕ → ℕ
 total_by Keep f billed = 0
 total_by Rescale f billed = billed
 total_by Fill f billed = billed - f.read
 total_by CutDown f billed = billed
 
-abbrev pub weights_by : Rule → Figures → ℕ
+abbrev pub weights_by : Rule → Totals → ℕ
 weights_by Keep f = 0
 weights_by Rescale f = f.read
 weights_by Fill f = f.weights
 weights_by CutDown f = f.read
 
-abbrev pub count_by : Rule → Figures → ℕ
+abbrev pub count_by : Rule → Totals → ℕ
 count_by Keep f = 0
 count_by Rescale f = f.hours - f.missing
 count_by Fill f = f.missing
@@ -89,13 +79,6 @@ count_by CutDown f = f.hours - f.missing
 
 abbrev pub method_by : ℕ → ℕ
 method_by s = slice_index (2 ∷ 2 ∷ 2 ∷ 4 ∷ 5 ∷ 6 ∷ []) s
-
--- figures of at most 1,500 hours
-pub record InLimits (f : Figures) : Type 0 where
-  pub some : f.missing ≤ f.hours
-  pub few : f.hours ≤ 1500
-  pub small : f.read ≤ 82500000
-  pub light : f.weights ≤ 1500000000
 
 -- what an hour weighs, by the profile's weight and what was read
 abbrev pub weight_by : Option ℕ → Option Wh → ℕ

@@ -4,9 +4,7 @@ use Rattle.vocabulary.specs.Answers.{Answer, granted, refused, Test, test}
 use Rattle.vocabulary.specs.Refusals.{notice}
 use Rattle.vocabulary.specs.declared.refusal.Refusal.{Refusal}
 use Rattle.closing.specs.Closing as rules
-use Rattle.closing.specs.declared.figures.Figures.{Figures}
-use Rattle.closing.specs.declared.rule.PeriodTest.{PeriodTest}
-use Rattle.closing.specs.declared.rule.PeriodTest.TheVariants.{Hourless, Unreal, Weightless}
+use Rattle.closing.specs.Lent.{Totals}
 use Rattle.closing.specs.declared.rule.Rule.{Rule}
 use Rattle.closing.specs.declared.rule.Rule.TheVariants.{Keep, Rescale, Fill, CutDown}
 
@@ -33,17 +31,16 @@ completes Rescale = false
 completes Fill = true
 completes CutDown = false
 
--- a test of a tariff period, by the source of what is billed, the period's figures and its kWh
-abbrev pub meets : PeriodTest → ℕ → Figures → ℕ → Bool
-meets Hourless source f kwh = f.hours == 0 && nat_lt 1 kwh
-meets Unreal source f kwh = nat_le 3 source && alters (rule_by f.missing f.read (1000 * kwh))
-meets Weightless source f kwh = completes (rule_by f.missing f.read (1000 * kwh)) && nat_lt f.read (1000 * kwh) && nat_lt 0 f.weightless
+-- the tests of a tariff period, by its figures and its kWh: energy for no hour, a balance of a source that would change
+-- read hours, and a missing hour with energy to share but no weight
+abbrev pub hourless_by : Totals → ℕ → Bool
+hourless_by f kwh = f.hours == 0 && nat_lt 1 kwh
 
--- the same in the words of the closing rules
-abbrev pub stops : rules.Case → rules.Billed → PeriodTest → ℕ → Bool
-stops c b Hourless p = rules.hourless c b p
-stops c b Unreal p = rules.unreal c b p
-stops c b Weightless p = rules.weightless c b p
+abbrev pub unreal_by : ℕ → Totals → ℕ → Bool
+unreal_by source f kwh = nat_le 3 source && alters (rule_by f.missing f.read (1000 * kwh))
+
+abbrev pub weightless_by : Totals → ℕ → Bool
+weightless_by f kwh = completes (rule_by f.missing f.read (1000 * kwh)) && nat_lt f.read (1000 * kwh) && nat_lt 0 f.weightless
 
 -- the tests of what is billed: all tests of a close but the first
 abbrev pub bill_tests : rules.Case → rules.Billed → List Test

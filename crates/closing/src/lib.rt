@@ -8,6 +8,7 @@ ghost use Rattle.closing.specs.Curves.{ClosingLaw};
 ghost use Rattle.closing.specs.Sharing.{AddsUp, NearlyExact};
 
 mod balance;
+mod billing_period;
 mod curve;
 mod figures;
 mod period;
@@ -15,8 +16,9 @@ mod rule;
 mod share;
 
 pub use balance::{Balance, Source};
-pub use curve::close;
-pub use period::{ClosedHour, Origin};
+pub use billing_period::BillingPeriod;
+pub use period::ClosedHour;
+pub use vocabulary::Method;
 
 // What running sums give, for all weights: the portions add up, and each is less than one unit from its exact share.
 pub fn sharing_law()

@@ -1,13 +1,14 @@
 // What happens in a tariff period, and what stops a close there.
-ghost use Rattle.std.specs.Prelude.{◌≡◌, ◌*◌, ◌≤◌, nat_le};
-ghost use Rattle.closing.specs.Billing.{AllFigures, Bills, FewWh, source_number};
+ghost use Rattle.std.specs.Prelude.{◌≡◌, ℕ, ◌*◌, Bool, nat_le};
+ghost use Rattle.closing.specs.Billing.{Bills, ComesTo, source_number};
 ghost use Rattle.closing.specs.Closing.{Billed as Bill, Case, some_period};
-ghost use Rattle.closing.specs.Testing.{alters, answer_of, bill_tests, completes, meets, rule_by, stops};
+ghost use Rattle.closing.specs.Lent.{figures_of, Totals, totals};
+ghost use Rattle.closing.specs.Testing.{alters, answer_of, bill_tests, completes, rule_by};
 ghost use Rattle.vocabulary.specs.Answers.{first_met};
 
 use crate::balance::{Billed, Source};
-use crate::figures::Figures;
-use vocabulary::{KWh, Refusal};
+use crate::figures::{BillingFigures, Figures};
+use vocabulary::{KWh, Refusal, Wh};
 
 // Read hours are kept or share the balance anew; where some are missing, these are filled from what the read hours
 // leave of the balance, or, where those exceed it by over 1 kWh, get nothing.
@@ -19,25 +20,15 @@ pub(crate) enum Rule {
     CutDown,
 }
 
-// What can stop a close in a tariff period: energy for no hour, a balance that is no reading of the distributor's and
-// would change read hours, and a missing hour with energy to share but no weight.
-#[derive(Clone, Copy)]
-pub(crate) enum PeriodTest {
-    Hourless,
-    Unreal,
-    Weightless,
-}
-
 impl Rule {
     // The rule of a tariff period, by its figures and its balance.
     pub(crate) fn of(figures: Figures, kwh: KWh) -> Rule
-        requires { figures.read ≤ 82500000 }
         ensures { result ≡ rule_by figures.missing figures.read (1000 * kwh.0) }
     {
         let read = figures.read;
-        let billed = kwh.in_wh().0;
+        let billed = Wh::from(kwh).0;
         if figures.missing == 0 {
-            if read <= billed + 1000 && billed <= read + 1000 {
+            if read.abs_diff(billed) <= 1000 {
                 Rule::Keep
             } else {
                 Rule::Rescale
@@ -53,20 +44,14 @@ impl Rule {
     pub(crate) fn changes(self) -> bool
         ensures { result ≡ alters self }
     {
-        match self {
-            Rule::Keep | Rule::Fill => false,
-            Rule::Rescale | Rule::CutDown => true,
-        }
+        matches!(self, Rule::Rescale | Rule::CutDown)
     }
 
     // Whether missing hours share energy.
     pub(crate) fn fills(self) -> bool
         ensures { result ≡ completes self }
     {
-        match self {
-            Rule::Fill => true,
-            _ => false,
-        }
+        matches!(self, Rule::Fill)
     }
 }
 
@@ -82,57 +67,43 @@ impl Source {
     }
 }
 
-impl PeriodTest {
-    fn is_met(self, source: Source, figures: Figures, kwh: KWh) -> bool
-        requires { figures.read ≤ 82500000 }
-        ensures { result ≡ meets self (source_number source) figures kwh.0 }
+impl BillingFigures {
+    // Whether a tariff period passes a test of its figures and of what is billed there.
+    fn some_period<F: Fn(Figures, KWh) -> bool>(&self, billed: Billed, passes: F) -> bool
+        requires { F.IsAlwaysCallable passes }
+        ensures { (test : Totals → ℕ → Bool) → ((f k answer : _) → F.post passes f k answer → answer ≡ test (totals f) k.0) → (c : Case) (b : Bill) → ComesTo c self.now → Bills b billed → result ≡ some_period c (λ p. test (figures_of c p) (b.kwh p)) }
     {
-        match self {
-            PeriodTest::Hourless => figures.hours == 0 && kwh.0 > 1,
-            PeriodTest::Unreal => source.is_estimate() && Rule::of(figures, kwh).changes(),
-            PeriodTest::Weightless => {
-                Rule::of(figures, kwh).fills()
-                    && figures.read < kwh.in_wh().0
-                    && figures.weightless > 0
-            }
-        }
+        self.by_period
+            .iter()
+            .zip(&billed.balance.kwh)
+            .take(self.periods)
+            .any(|(&figures, &kwh)| passes(figures, kwh))
     }
 
-    // Whether the test is met in one of the tariff periods.
-    fn is_met_in_one(self, billed: Billed, periods: usize, figures: [Figures; 3]) -> bool
-        requires { (FewWh figures) × (periods ≤ 3) }
-        ensures { (c : Case) (b : Bill) → c.calendar.periods ≡ periods → AllFigures c figures → Bills b billed → result ≡ some_period c (stops c b self) }
+    // The tests of what is billed, each in all tariff periods before the next: as many periods as the calendar has (25),
+    // no energy without hours (26), no estimate or own reading that would change read hours (27), a weight for each
+    // missing hour that has energy to share (15).
+    pub(crate) fn check_bill(&self, billed: Billed) -> Result<(), Refusal>
+        ensures { (c : Case) (b : Bill) → ComesTo c self.now → Bills b billed → answer_of result ≡ first_met (bill_tests c b) }
     {
-        for i in 0..periods {
-            if self.is_met(billed.source, figures[i], billed.kwh[i]) {
-                return true;
-            }
+        if billed.balance.periods != self.periods {
+            return Err(Refusal::PeriodCountDiffers);
         }
-        false
+        if self.some_period(billed, |figures, kwh| figures.hours == 0 && kwh.0 > 1) {
+            return Err(Refusal::PeriodWithoutHours);
+        }
+        if self.some_period(billed, |figures, kwh| {
+            billed.source.is_estimate() && Rule::of(figures, kwh).changes()
+        }) {
+            return Err(Refusal::EstimateContradicted);
+        }
+        if self.some_period(billed, |figures, kwh| {
+            Rule::of(figures, kwh).fills()
+                && figures.read < Wh::from(kwh).0
+                && figures.weightless > 0
+        }) {
+            return Err(Refusal::NoWeight);
+        }
+        Ok(())
     }
-}
-
-// The tests of what is billed, each in all tariff periods before the next: as many periods as the calendar has (25), no
-// energy without hours (26), no estimate against read hours (27), a weight wherever one is needed (15).
-pub(crate) fn check_bill(
-    billed: Billed,
-    periods: usize,
-    figures: [Figures; 3],
-) -> Result<(), Refusal>
-    requires { (FewWh figures) × (periods ≤ 3) }
-    ensures { (c : Case) (b : Bill) → c.calendar.periods ≡ periods → AllFigures c figures → Bills b billed → answer_of result ≡ first_met (bill_tests c b) }
-{
-    if billed.periods != periods {
-        return Err(Refusal::PeriodCountDiffers);
-    }
-    if PeriodTest::Hourless.is_met_in_one(billed, periods, figures) {
-        return Err(Refusal::PeriodWithoutHours);
-    }
-    if PeriodTest::Unreal.is_met_in_one(billed, periods, figures) {
-        return Err(Refusal::EstimateContradicted);
-    }
-    if PeriodTest::Weightless.is_met_in_one(billed, periods, figures) {
-        return Err(Refusal::NoWeight);
-    }
-    Ok(())
 }

@@ -1,2 +1,2 @@
-mod Signs
+mod Pictures
 mod Stretches

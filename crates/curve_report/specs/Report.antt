@@ -1,5 +1,6 @@
 -- What is reported of a supply: its hours, their energy and methods, and a picture of each clock day.
-use Rattle.std.specs.Prelude.{◌≡◌, ℕ, ◌+◌, ◌-◌, ◌≤◌, Bool, true, false, cond, List, [], ◌∷◌, ◌++◌, length, replicate, decimal, ◌==◌, nat_lt, slice_set}
+use Rattle.std.specs.Prelude.{◌≡◌, ℕ, ◌+◌, ◌-◌, ◌≤◌, Bool, true, false, cond, List, [], ◌∷◌, ◌++◌, length, replicate, decimal, ◌==◌, slice_set}
+use Rattle.std.specs.List.{flat_map}
 use Rattle.f5d.specs.Records.{every_record, Record, same}
 use Rattle.official_time.specs.Dates.{day_of, is_date}
 use Rattle.official_time.specs.Hours.{clock_day, is_hour}
@@ -27,9 +28,6 @@ pub record Stretch (rs stretch others : List Record) : Type 0 where
 
 -- ## The line of a supply
 
-abbrev pub ascii : ℕ → Bool
-ascii b = nat_lt b 128
-
 abbrev pub energy : List Record → ℕ
 energy [] = 0
 energy (r ∷ rs) = r.wh + energy rs
@@ -39,16 +37,17 @@ abbrev pub by_method : ℕ → List Record → ℕ
 by_method m [] = 0
 by_method m (r ∷ rs) = cond (r.method == m) 1 0 + by_method m rs
 
--- how many hours have each method; each field ends with `;` (59)
-abbrev pub methods_text : ℕ → ℕ → ℕ → ℕ → ℕ → ℕ → List ℕ
-methods_text n1 n2 n3 n4 n5 n6 = decimal n1 ++ 59 ∷ (decimal n2 ++ 59 ∷ (decimal n3 ++ 59 ∷ (decimal n4 ++ 59 ∷ (decimal n5 ++ 59 ∷ (decimal n6 ++ 59 ∷ 10 ∷ [])))))
+-- each count, as a field that ends with `;` (59)
+abbrev pub counts_text : List ℕ → List ℕ
+counts_text = flat_map (λ n. decimal n ++ 59 ∷ [])
 
+-- how many hours have each method, from the first to the sixth
 abbrev pub methods : List Record → List ℕ
-methods rs = methods_text (by_method 1 rs) (by_method 2 rs) (by_method 3 rs) (by_method 4 rs) (by_method 5 rs) (by_method 6 rs)
+methods rs = counts_text (by_method 1 rs ∷ by_method 2 rs ∷ by_method 3 rs ∷ by_method 4 rs ∷ by_method 5 rs ∷ by_method 6 rs ∷ [])
 
 -- the supply, its hours, their energy, and how many have each method
 abbrev pub supply_line : List ℕ → List Record → List ℕ
-supply_line s rs = s ++ 59 ∷ (decimal (length rs) ++ 59 ∷ (decimal (energy rs) ++ 59 ∷ methods rs))
+supply_line s rs = s ++ 59 ∷ (decimal (length rs) ++ 59 ∷ (decimal (energy rs) ++ 59 ∷ (methods rs ++ 10 ∷ [])))
 
 -- ## The picture of a clock day
 

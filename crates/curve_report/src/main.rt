@@ -17,9 +17,8 @@ use stretch::next_stretch;
 // Reports supply after supply of a file that was checked.
 fn report_all(rt: &HostRuntime, file: &[u8]) -> anyhow::Result<()> {
     let mut out = String::new(rt.alloc());
-    let mut stretch = Vec::new(rt.alloc());
     let mut records = Records::new(file);
-    while next_stretch(&mut records, &mut stretch)? {
+    while let Some(stretch) = next_stretch(rt.alloc(), &mut records)? {
         write_supply(&mut out, &stretch)?;
         rt.print(out.as_str())?;
         out.clear();

@@ -1,11 +1,12 @@
 // The records of one supply, one behind the other.
-ghost use Rattle.std.specs.Prelude.{◌≡◌, ℕ, ◌<◌, true, false, ◌⊎◌, List, [], map, length, IfNone, IfOk, MatchBool, MatchOption};
+ghost use Rattle.std.specs.Prelude.{◌≡◌, ℕ, ◌<◌, true, false, ◌⊎◌, List, [], map, length, IfNone, IfOk, IfSome, MatchOption};
 ghost use Rattle.curve_report.specs.Report.{of_supply, Stretch};
 ghost use Rattle.f5d.specs.Meanings.{record_of};
 ghost use Rattle.f5d.specs.Reading.{bad, good, read_line};
 ghost use Rattle.f5d.specs.Records.{can_bear, every_record, Lines, Record};
 
-use f5d::{HourRecord, Records, same_code};
+use f5d::{HourRecord, Records};
+use std::alloc::{AllocError, Global};
 use vocabulary::SupplyCode;
 
 // Takes the next record if it is of the supply.
@@ -14,34 +15,25 @@ fn take_next(records: &mut Records, supply: &SupplyCode) -> Option<HourRecord>
     ensures left { IfNone result (records.new.rest.now ≡ records.old.rest.now) }
 {
     let mut ahead = *records;
-    let Some(next) = ahead.next() else {
-        return None;
-    };
-    if !same_code(supply, &next.at.supply) {
-        return None;
-    }
+    let next = ahead.next().filter(|next| next.at.supply == *supply)?;
     *records = ahead;
     Some(next)
 }
 
-// Puts the records of the next supply in place of those that are there. False where there is none.
+// Takes the records of the next supply. None where there is none.
 pub(crate) fn next_stretch(
+    alloc: Global,
     records: &mut Records,
-    stretch: &mut Vec<HourRecord>,
-) -> anyhow::Result<bool>
-    ensures stretch { IfOk result (λ b. (rs : List Record) → Lines rs records.old.rest.now → every_record can_bear rs ≡ true → MatchBool b ((others : List Record) × Stretch rs (map record_of stretch.new.items) others × Lines others records.new.rest.now × (every_record can_bear others ≡ true)) (rs ≡ [])) }
-    ensures shorter { IfOk result (λ b. b ≡ true → length records.new.rest.now < length records.old.rest.now) }
+) -> Result<Option<Vec<HourRecord>>, AllocError>
+    ensures stretch { IfOk result (λ next. (rs : List Record) → Lines rs records.old.rest.now → every_record can_bear rs ≡ true → MatchOption next (rs ≡ []) (λ stretch. (others : List Record) × Stretch rs (map record_of stretch.items) others × Lines others records.new.rest.now × (every_record can_bear others ≡ true))) }
+    ensures shorter { IfOk result (λ next. IfSome next (λ _. length records.new.rest.now < length records.old.rest.now)) }
 {
-    stretch.clear();
     let Some(first) = records.next() else {
-        return Ok(false);
+        return Ok(None);
     };
-    let supply = first.at.supply;
-    stretch.push(first)?;
-    loop {
-        match take_next(records, &supply) {
-            Some(next) => stretch.push(next)?,
-            None => return Ok(true),
-        }
+    let mut stretch = vec![in alloc; first]?;
+    while let Some(next) = take_next(records, &first.at.supply) {
+        stretch.push(next)?;
     }
+    Ok(Some(stretch))
 }

@@ -4,7 +4,8 @@ use Rattle.std.proofs.lemmas.Fmt.{decimal_digit, decimal_nonempty, decimal-digit
 use Rattle.std.proofs.lemmas.List.{append_assoc, get_or_append_left, get_or_past, get_or-take, length-take-le}
 use Rattle.std.proofs.lemmas.Str.Parse.{FoldsDigits, IsNumeralModel, numerals_by_fold, IsDigitsTest, digits_value_short}
 use Rattle.std.proofs.lemmas.Bool.{and_from, and_parts, cases_lt, cond_both, cond-false, cond-true, eq-eqb, eqb-false, eqb-true, le-leb, leb-true, ne_eqb, not_from_false, not-true, or_cases, or_left, or_right, true≢false}
-use Rattle.vocabulary.specs.Codes.{code_byte, every, is_invoice, is_supply, visible}
+use Rattle.vocabulary.specs.Codes.{code_byte, is_invoice, is_supply, visible}
+use Rattle.std.specs.List.{list_all}
 use Rattle.vocabulary.specs.Ranges.{between}
 use Rattle.official_time.specs.Hours.{is_label, IsLabel}
 use Rattle.official_time.specs.Texts.{four_digits, label_text, two_digits}
@@ -13,7 +14,8 @@ use Rattle.official_time.proofs.Dates.{within}
 use Rattle.official_time.proofs.Hours.{flag_small, label_from}
 use Rattle.official_time.proofs.Texts.{first_places, real_short}
 use Rattle.f5d.specs.Records.{ended}
-use Rattle.f5d.specs.Reading.{clock_written, digit, ends_at, label_under, leading, number, one_digit, pair, pair_number}
+use Rattle.f5d.specs.Reading.{clock_written, ends_at, label_under, leading, number, one_digit, pair, pair_number}
+use Rattle.vocabulary.specs.Codes.{digit}
 
 -- ## Several tests
 
@@ -37,9 +39,9 @@ passes_all a (b ∷ bs) h = passes_all (a && b) bs (and_from a b h.0 h.1.0, h.1.
 -- ## Bytes that all pass a test
 
 module _ (p : ℕ → Bool) where
-  pub every_weaker : (q : ℕ → Bool) → ((b : ℕ) → p b ≡ true → q b ≡ true) → (xs : List ℕ) → every p xs ≡ true → every q xs ≡ true
+  pub every_weaker : (q : ℕ → Bool) → ((b : ℕ) → p b ≡ true → q b ≡ true) → (xs : List ℕ) → list_all p xs ≡ true → list_all q xs ≡ true
   every_weaker q h [] a = refl
-  every_weaker q h (x ∷ xs) a = let k = and_parts (p x) (every p xs) a in and_from (q x) (every q xs) (h x k.0) (every_weaker q h xs k.1)
+  every_weaker q h (x ∷ xs) a = let k = and_parts (p x) (list_all p xs) a in and_from (q x) (list_all q xs) (h x k.0) (every_weaker q h xs k.1)
 
   -- the leading bytes that pass are at most n, and all pass
   pub leading_most : (n : ℕ) (bytes : List ℕ) → leading p n bytes ≤ n
@@ -47,20 +49,20 @@ module _ (p : ℕ → Bool) where
   leading_most (suc n) [] = omega arith
   leading_most (suc n) (b ∷ bytes) = let h = leading_most n bytes in cond_both (p b) (suc (leading p n bytes)) 0 (λ k. k ≤ suc n) (λ e. omega arith) (λ e. omega arith)
 
-  pub leading_pass : (n : ℕ) (bytes : List ℕ) → every p (take (leading p n bytes) bytes) ≡ true
+  pub leading_pass : (n : ℕ) (bytes : List ℕ) → list_all p (take (leading p n bytes) bytes) ≡ true
   leading_pass zero bytes = refl
   leading_pass (suc n) [] = refl
   leading_pass (suc n) (b ∷ bytes) =
       let h = leading_pass n bytes in
-      cond_both (p b) (suc (leading p n bytes)) 0 (λ k. every p (take k (b ∷ bytes)) ≡ true) (λ e. and_from (p b) _ e h) (λ e. refl)
+      cond_both (p b) (suc (leading p n bytes)) 0 (λ k. list_all p (take k (b ∷ bytes)) ≡ true) (λ e. and_from (p b) _ e h) (λ e. refl)
 
   -- a text that passes leads as far as a byte that does not
-  pub leading_text : (n : ℕ) (xs : List ℕ) (c : ℕ) (rest : List ℕ) → every p xs ≡ true → length xs ≤ n → p c ≡ false → leading p n (xs ++ c ∷ rest) ≡ length xs
+  pub leading_text : (n : ℕ) (xs : List ℕ) (c : ℕ) (rest : List ℕ) → list_all p xs ≡ true → length xs ≤ n → p c ≡ false → leading p n (xs ++ c ∷ rest) ≡ length xs
   leading_text zero [] c rest a l e = refl
   leading_text zero (x ∷ xs) c rest a l e = absurd (omega arith)
   leading_text (suc n) [] c rest a l e = cond-false (p c) (suc (leading p n rest)) 0 e
   leading_text (suc n) (x ∷ xs) c rest a l e =
-      let k = and_parts (p x) (every p xs) a in
+      let k = and_parts (p x) (list_all p xs) a in
       cond-true (p x) (suc (leading p n (xs ++ c ∷ rest))) 0 k.0 ∙ ap suc (leading_text n xs c rest k.1 (omega arith) e)
 
 -- ## A text and the `;` that ends it
@@ -96,13 +98,13 @@ ended_behind (x ∷ text) rest = ended_behind text rest
 abbrev pub unended : ℕ → Bool
 unended b = not (eqb b 59)
 
-pub ended_apart : (s t x y : List ℕ) → every unended s ≡ true → every unended t ≡ true → s ++ 59 ∷ x ≡ t ++ 59 ∷ y → (s ≡ t) × (x ≡ y)
+pub ended_apart : (s t x y : List ℕ) → list_all unended s ≡ true → list_all unended t ≡ true → s ++ 59 ∷ x ≡ t ++ 59 ∷ y → (s ≡ t) × (x ≡ y)
 ended_apart [] [] x y p q e = (refl, ap (drop 1) e)
-ended_apart [] (b ∷ t) x y p q e = let h = ap (λ l. get_or l 0 0) e in absurd (true≢false (sym (and_parts (unended b) (every unended t) q).0 ∙ ap unended (sym h)))
-ended_apart (a ∷ s) [] x y p q e = let h = ap (λ l. get_or l 0 0) e in absurd (true≢false (sym (and_parts (unended a) (every unended s) p).0 ∙ ap unended h))
+ended_apart [] (b ∷ t) x y p q e = let h = ap (λ l. get_or l 0 0) e in absurd (true≢false (sym (and_parts (unended b) (list_all unended t) q).0 ∙ ap unended (sym h)))
+ended_apart (a ∷ s) [] x y p q e = let h = ap (λ l. get_or l 0 0) e in absurd (true≢false (sym (and_parts (unended a) (list_all unended s) p).0 ∙ ap unended h))
 ended_apart (a ∷ s) (b ∷ t) x y p q e =
     let h = ap (λ l. get_or l 0 0) e in
-    let k = ended_apart s t x y (and_parts (unended a) (every unended s) p).1 (and_parts (unended b) (every unended t) q).1 (ap (drop 1) e) in
+    let k = ended_apart s t x y (and_parts (unended a) (list_all unended s) p).1 (and_parts (unended b) (list_all unended t) q).1 (ap (drop 1) e) in
     ((λ i. h i ∷ k.0 i), k.1)
 
 -- ## A: the supply
@@ -112,7 +114,7 @@ supply_there bytes h = let p = and_parts (is_supply (take 22 bytes)) (ends_at by
 
 pub supply_passes : (s rest : List ℕ) → is_supply s ≡ true → (is_supply (take 22 (ended s ++ rest)) && ends_at (ended s ++ rest) 22) ≡ true
 supply_passes s rest h =
-    let long = eqb-true (length s) 22 (and_parts (eqb (length s) 22) (every code_byte s) h).0 in
+    let long = eqb-true (length s) 22 (and_parts (eqb (length s) 22) (list_all code_byte s) h).0 in
     subst (λ n. (is_supply (take n (ended s ++ rest)) && ends_at (ended s ++ rest) n) ≡ true) long
     (and_from _ _ (ap is_supply (ended_before s rest) ∙ h) (ended_at s rest))
 
@@ -138,14 +140,14 @@ module _ (low high : ℕ) where
 -- ## D: the energy
 
 -- `digit` and `number` tell digits and their number as the library does
-pub numerals : IsNumeralModel (λ ds. every digit ds ≡ true) (number 0)
-numerals = numerals_by_fold (λ ds. every digit ds ≡ true) tells number folds
+pub numerals : IsNumeralModel (λ ds. list_all digit ds ≡ true) (number 0)
+numerals = numerals_by_fold (λ ds. list_all digit ds ≡ true) tells number folds
   where
-    tells : IsDigitsTest (λ ds. every digit ds ≡ true)
+    tells : IsDigitsTest (λ ds. list_all digit ds ≡ true)
     tells = record {
       empty = refl;
-      parts = λ c cs e. let k = and_parts (digit c) (every digit cs) e in (within 48 57 c k.0, k.1);
-      more = λ c cs k e. and_from (digit c) (every digit cs) (and_from _ _ (le-leb 48 c k.0) (le-leb c 57 k.1)) e;
+      parts = λ c cs e. let k = and_parts (digit c) (list_all digit cs) e in (within 48 57 c k.0, k.1);
+      more = λ c cs k e. and_from (digit c) (list_all digit cs) (and_from _ _ (le-leb 48 c k.0) (le-leb c 57 k.1)) e;
     }
 
     folds : FoldsDigits number
@@ -156,7 +158,7 @@ abbrev pub number_written : ℕ → List ℕ → Bool
 number_written n bytes = let k = leading digit n bytes in leb 1 k && ends_at bytes k && (eqb k 1 || not (eqb (get_or bytes 0 0) 48))
 
 -- digits with no 0 before others are what is written of their number
-pub decimal_back : (ds : List ℕ) → every digit ds ≡ true → 0 < length ds → length ds ≤ 10 → (eqb (length ds) 1 || not (eqb (get_or ds 0 0) 48)) ≡ true → (number 0 ds ≤ 9999999999) × (decimal (number 0 ds) ≡ ds)
+pub decimal_back : (ds : List ℕ) → list_all digit ds ≡ true → 0 < length ds → length ds ≤ 10 → (eqb (length ds) 1 || not (eqb (get_or ds 0 0) 48)) ≡ true → (number 0 ds ≤ 9999999999) × (decimal (number 0 ds) ≡ ds)
 decimal_back ds h some short lead =
     let small = digits_value_short numerals ds 10 h short in
     (omega arith, decimal-digits_value numerals ds h some only (omega arith))
@@ -225,7 +227,7 @@ invoice_there bytes h =
 
 pub invoice_passes : (text rest : List ℕ) → is_invoice text ≡ true → invoice_written ((text ++ 59 ∷ 10 ∷ []) ++ rest) ≡ true
 invoice_passes text rest h =
-    let p = and_parts (between 1 26 (length text)) (every visible text) h in
+    let p = and_parts (between 1 26 (length text)) (list_all visible text) h in
     let w = within 1 26 (length text) p.0 in
     let bytes = ended text ++ (10 ∷ rest) in
     let leads : leading visible 26 bytes ≡ length text = ap (leading visible 26) (ended_rest text (10 ∷ rest)) ∙ leading_text visible 26 text 59 (10 ∷ rest) p.1 w.1 refl in
@@ -333,7 +335,7 @@ label_passes h l rest is =
         (cases_lt f 1)
 
 -- no text of a label has a `;`
-pub label_unended : (l : Label) → every unended (label_text l) ≡ true
+pub label_unended : (l : Label) → list_all unended (label_text l) ≡ true
 label_unended l i =
     pair_unended (l.date.year / 100) (pair_unended l.date.year (pair_unended l.date.month (pair_unended l.date.day (pair_unended l.hour (pair_unended l.minute refl))))) i
   where

@@ -1,17 +1,16 @@
 -- The steps of reading a name, as the program takes them.
-use Rattle.std.proofs.Common.{◌≡◌, ℕ, ◌+◌, ◌*◌, ◌≤◌, min, Bool, true, cond, not, ◌&&◌, ◌||◌, eqb, leb, List, [], ◌∷◌, ◌++◌, length, get_or, take, drop, Some, None, codes, IsUtf8, Option, sym, refl, ap, ◌∙◌, subst, arith}
-use lib.Seq.{take-length}
+use Rattle.std.proofs.Common.{◌≡◌, ℕ, ◌+◌, ◌*◌, min, Bool, true, cond, ◌&&◌, eqb, List, [], ◌∷◌, ◌++◌, length, get_or, take, drop, Some, None, codes, IsUtf8, Option, sym, refl, ap, ◌∙◌, subst, arith}
 use lib.Utf8.{encode}
 use Rattle.std.proofs.lemmas.List.{take-append-drop}
-use Rattle.std.proofs.lemmas.Bool.{cond_both, cond-true, eqb-true, leb-true}
+use Rattle.std.proofs.lemmas.Bool.{cond_both, cond-true}
 use Rattle.official_time.specs.Dates.{is_date, on}
 use Rattle.official_time.specs.declared.date.Date.{Date}
-use Rattle.vocabulary.specs.Codes.{every, is_participant}
+use Rattle.vocabulary.specs.Codes.{is_participant}
 use Rattle.f5d.specs.Names.{IsName, Name, named_behind, read_name, RightName, version_written, word_text}
-use Rattle.f5d.specs.Reading.{digit, leading, number, pair, pair_number}
+use Rattle.f5d.specs.Reading.{number, pair, pair_number}
 use Rattle.f5d.specs.declared.name.Word.{Word}
 use Rattle.f5d.specs.declared.name.Word.TheVariants.{F5d, Rf5d}
-use Rattle.f5d.proofs.Fields.{all_pass, leading_pass, passes_all}
+use Rattle.f5d.proofs.Fields.{all_pass, passes_all}
 use Rattle.f5d.proofs.Names.{name_read, name_right}
 
 -- ## The word
@@ -48,15 +47,6 @@ word_off text end e none = by (read_name text) (name_right text)
     by (Some n) h = absurd (none n.word (subst (λ t. word_text n.word ≡ take (word_end t) t) h.1 (word_there n.word _) ∙ ap (λ k. take k text) (sym e)))
 
 -- ## The version
-
-abbrev numeral : List ℕ → Bool
-numeral b = leb 1 (length b) && leb (length b) 3 && eqb (leading digit 3 b) (length b) && (eqb (length b) 1 || not (eqb (get_or b 0 0) 48))
-
-pub numeral_digits : (b : List ℕ) → numeral b ≡ true → (length b ≤ 3) × (every digit b ≡ true)
-numeral_digits b h =
-    let t = all_pass (leb 1 (length b)) (leb (length b) 3 ∷ eqb (leading digit 3 b) (length b) ∷ (eqb (length b) 1 || not (eqb (get_or b 0 0) 48)) ∷ []) h in
-    let leads = eqb-true (leading digit 3 b) (length b) t.1.1.0 in
-    (leb-true (length b) 3 t.1.0, ap (every digit) (sym (ap (λ k. take k b) leads ∙ take-length b)) ∙ leading_pass digit 3 b)
 
 -- ## What stands behind the word
 

@@ -83,9 +83,6 @@ after_line n done (good r rest) =
     (cond (eqb (length rest) 0) (holds (done ++ r ∷ [])) (read_lines n (done ++ r ∷ []) rest))
     (out_of_turn (length done + 1))
 
-pub read_lines_step : (n : ℕ) (done : List Record) (bytes : List ℕ) → read_lines (suc n) done bytes ≡ after_line n done (read_line bytes)
-read_lines_step n done bytes = refl
-
 line_right : (all : List ℕ) (n : ℕ) (done : List Record) (bytes : List ℕ) → Reached all done bytes → length bytes ≤ n → ((next : List Record) (rest : List ℕ) → Reached all next rest → length rest < n → RightFile all (read_lines n next rest)) → (x : LineRead) → RightLine bytes x → RightFile all (after_line n done x)
 line_right all n done bytes s fuel go (bad f) h = reached_malformed all done bytes s f h
 line_right all n done bytes s fuel go (good r rest) h =

@@ -1,6 +1,6 @@
 -- Going through lines that are known to be there.
 use Rattle.std.proofs.Common.{◌≡◌, ℕ, zero, suc, ◌+◌, ◌<◌, ◌≤◌, true, false, not, ◌&&◌, eqb, ltb, List, [], ◌∷◌, ◌++◌, length, take, drop, sym, refl, ap, ◌∙◌, subst, arith}
-use Rattle.std.proofs.lemmas.List.{drop-drop, length-append, length-drop, nil_from_length, take-append-drop, take_at}
+use Rattle.std.proofs.lemmas.List.{length-append, length-drop, take-append-drop, take_at}
 use Rattle.std.proofs.lemmas.Bool.{and_from, and_parts, lt-ltb, or_right}
 use Rattle.vocabulary.specs.Refusals.{letter}
 use Rattle.vocabulary.specs.declared.refusal.Field.{Field}
@@ -53,52 +53,51 @@ next_line bytes (r ∷ rs) l b some =
 pub line_shortens : (bytes rest : List ℕ) (r : Record) → read_line bytes ≡ good r rest → length rest < length bytes
 line_shortens bytes rest r e = let s = rest_shorter bytes r rest (subst (RightLine bytes) e (line_reading.right bytes)) in omega arith
 
--- Going through all lines in search of a supply: what is left from a place on decides.
-abbrev pub Left : List ℕ → List ℕ → ℕ → Type 0
-Left s bytes at =
+-- Going through all records in search of a supply: those that are left decide.
+abbrev pub Left : List ℕ → List ℕ → List ℕ → Type 0
+Left s bytes rest =
     (done : List Record) → Lines done bytes → every_record can_bear done ≡ true →
-    (rest : List Record) × Lines rest (drop at bytes) × (every_record can_bear rest ≡ true) × (apart s done ≡ apart s rest)
+    (others : List Record) × Lines others rest × (every_record can_bear others ≡ true) × (apart s done ≡ apart s others)
 
-module _ (s bytes : List ℕ) (at : ℕ) (left : Left s bytes at) where
-  module _ (within : at < length bytes) where
-    next_left : (done : List Record) (l : Lines done bytes) (b : every_record can_bear done ≡ true) → NextLine (drop at bytes) (left done l b).0
+module _ (s bytes rest : List ℕ) (left : Left s bytes rest) where
+  module _ (q : Record) (more : List ℕ) (e : read_line rest ≡ good q more) where
+    next_left : (done : List Record) (l : Lines done bytes) (b : every_record can_bear done ≡ true) → NextLine rest (left done l b).0
     next_left done l b =
-        let rest = left done l b in
-        next_line (drop at bytes) rest.0 rest.1 rest.2 (omega (arith, length-drop at bytes))
+        let others = left done l b in
+        let less = line_shortens rest more q e in
+        next_line rest others.0 others.1 others.2 (omega arith)
 
-    -- there is a line
-    pub left_line : (n : ℕ) → read_line (drop at bytes) ≡ bad n → (done : List Record) → Lines done bytes → every_record can_bear done ≡ true → ⊥
-    left_line n e done l b = let next = next_left done l b in bad_not_good n next.next next.more (sym e ∙ next.read)
+    -- the next is of the supply
+    pub left_found : same s q.supply ≡ true → (done : List Record) → Lines done bytes → every_record can_bear done ≡ true → false ≡ apart s done
+    left_found here done l b =
+        let others = left done l b in
+        let next = next_left done l b in
+        let is = good_one q next.next more next.more (sym e ∙ next.read) in
+        sym (others.3 ∙ ap (apart s) next.all ∙ ap (λ x. not x && apart s next.others) (ap (λ r. same s r.supply) (sym is.0) ∙ here))
 
-    module _ (q : Record) (n : ℕ) (e : read_line (drop at bytes) ≡ good q (drop n (drop at bytes))) where
-      -- it is of the supply
-      pub left_found : same s q.supply ≡ true → (done : List Record) → Lines done bytes → every_record can_bear done ≡ true → false ≡ apart s done
-      left_found here done l b =
-          let rest = left done l b in
-          let next = next_left done l b in
-          let is = good_one q next.next (drop n (drop at bytes)) next.more (sym e ∙ next.read) in
-          sym (rest.3 ∙ ap (apart s) next.all ∙ ap (λ x. not x && apart s next.others) (ap (λ r. same s r.supply) (sym is.0) ∙ here))
+    -- it is not, and the others decide
+    pub left_more : same s q.supply ≡ false → Left s bytes more
+    left_more differs done l b =
+        let others = left done l b in
+        let next = next_left done l b in
+        let is = good_one q next.next more next.more (sym e ∙ next.read) in (
+          next.others,
+          subst (Lines next.others) (sym is.1) next.lines,
+          next.bear,
+          others.3 ∙ ap (apart s) next.all ∙ ap (λ x. not x && apart s next.others) (ap (λ r. same s r.supply) (sym is.0) ∙ differs),
+        )
 
-      -- it is not, and the others decide
-      pub left_more : same s q.supply ≡ false → Left s bytes (at + n)
-      left_more differs done l b =
-          let rest = left done l b in
-          let next = next_left done l b in
-          let is = good_one q next.next (drop n (drop at bytes)) next.more (sym e ∙ next.read) in (
-            next.others,
-            subst (Lines next.others) (sym is.1 ∙ drop-drop n at bytes) next.lines,
-            next.bear,
-            rest.3 ∙ ap (apart s) next.all ∙ ap (λ x. not x && apart s next.others) (ap (λ r. same s r.supply) (sym is.0) ∙ differs),
-          )
-
-  -- there is no more line
-  pub left_none : length bytes ≤ at → (done : List Record) → Lines done bytes → every_record can_bear done ≡ true → true ≡ apart s done
-  left_none over done l b =
-      let rest = left done l b in
-      let none = lines_least rest.0 rest.2 in
-      let long = lines_long rest.0 (drop at bytes) rest.2 rest.1 in
-      let gone = length-drop at bytes in
-      sym (rest.3 ∙ ap (apart s) (nil_from_length rest.0 (omega arith)))
+  -- there is no next one
+  pub left_none : (n : ℕ) → read_line rest ≡ bad n → (done : List Record) → Lines done bytes → every_record can_bear done ≡ true → true ≡ apart s done
+  left_none n e done l b = by (left done l b)
+    where
+      by : (others : List Record) × Lines others rest × (every_record can_bear others ≡ true) × (apart s done ≡ apart s others) → true ≡ apart s done
+      by ([], lines, bear, is) = sym is
+      by (r ∷ rs, lines, bear, is) =
+          let some = lines_least (r ∷ rs) bear in
+          let long = lines_long (r ∷ rs) rest bear lines in
+          let next = next_line rest (r ∷ rs) lines bear (omega arith) in
+          absurd (bad_not_good n next.next next.more (sym e ∙ next.read))
 
 take_none : (k : ℕ) → take {A = ℕ} k [] ≡ []
 take_none zero = refl

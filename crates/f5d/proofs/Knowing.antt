@@ -1,27 +1,44 @@
 -- What is known of the records that were passed decides whether the next one is in its turn.
-use Rattle.std.proofs.Common.{◌≡◌, ℕ, Bool, true, false, cond, not, ◌&&◌, ltb, List, [], ◌∷◌, ◌++◌, Decides, Ordering, Less, Equal, Greater, sym, refl, ap, ◌∙◌, subst}
+use Rattle.std.proofs.Common.{◌≡◌, ℕ, Bool, true, false, cond, not, ◌&&◌, ltb, List, [], ◌∷◌, ◌++◌, Ordering, Less, Equal, Greater, sym, refl, ap, ◌∙◌, subst, ◌<◌, arith}
 use borrow.Author.Tests.{clash}
-use Rattle.std.proofs.lemmas.Bool.{and_from, and_parts}
-use Rattle.std.specs.Ordering.{MatchOrdering}
-use Rattle.f5d.specs.Bytes.{Lower, lower_irreflexive, lower_transitive}
+use Rattle.std.proofs.lemmas.Bool.{and_from, and_parts, le-ltb, lt-ltb}
+use Rattle.std.specs.Cmp.{ranks}
+use Rattle.std.specs.Cmp.Lexicographic.{slice_cmp}
+use Rattle.std.specs.Ordering.{is_lt, MatchOrdering, nat_cmp, ord_max}
+use Rattle.vocabulary.specs.declared.codes.code.Code.{Code}
+use Rattle.f5d.specs.Bytes.{Lower, lower_agrees, lower_irreflexive, lower_transitive}
 use Rattle.f5d.specs.Marking.{marked}
 use Rattle.f5d.specs.Passing.{Knows, NoneAbove}
 use Rattle.f5d.specs.Records.{apart, every_record, in_turn, Record, same}
 use Rattle.f5d.specs.declared.passed.Turns.{Turns}
 use Rattle.f5d.proofs.Turns.{every_record-append, in_turn_more, same_true}
 
--- two tests of one thing
-pub both_decide : (x y : Bool) {P Q : Type 0} → Decides x P → Decides y Q → (P → Q) → (Q → P) → x ≡ y
-both_decide true true p q f g = refl
-both_decide true false p q f g = sym (q.1 (f (p.0 refl)))
-both_decide false true p q f g = p.1 (g (q.0 refl))
-both_decide false false p q f g = refl
+-- what comparing says of the order
+pub less_lower : (a b : List ℕ) → is_lt (slice_cmp nat_cmp a b) ≡ true → Lower a b
+less_lower a b e = by (slice_cmp nat_cmp a b) (lower_agrees a b) e
+  where
+    by : (o : Ordering) → MatchOrdering o (Lower a b) (a ≡ b) (Lower b a) → is_lt o ≡ true → Lower a b
+    by Less h e = h
+    by Equal h e = absurd (clash e)
+    by Greater h e = absurd (clash e)
 
--- a comparison that is not `Less` shows that the first is not lower
-pub not_lower : (o : Ordering) (a b : List ℕ) → (o ≡ Less → ⊥) → MatchOrdering o (Lower a b) (a ≡ b) (Lower b a) → Lower a b → ⊥
-not_lower Less a b n r l = n refl
-not_lower Equal a b n r l = lower_irreflexive b (subst (λ s. Lower s b) r l)
-not_lower Greater a b n r l = lower_irreflexive a (lower_transitive a b a l r)
+pub lt_is_ltb : (a b : ℕ) → is_lt (nat_cmp a b) ≡ ltb a b
+lt_is_ltb a b = by (nat_cmp a b) (ranks a b)
+  where
+    by : (o : Ordering) → MatchOrdering o (a < b) (a ≡ b) (b < a) → is_lt o ≡ ltb a b
+    by Less h = sym (lt-ltb a b h)
+    by Equal h = sym (le-ltb a b (omega arith))
+    by Greater h = sym (le-ltb a b (omega arith))
+
+-- the higher of two codes
+pub highest_of : (a b : Code 22) → ((s : List ℕ) → (Lower a.bytes s → ⊥) → Lower (ord_max (λ x y. slice_cmp nat_cmp x.bytes y.bytes) a b).bytes s → ⊥) × (Lower (ord_max (λ x y. slice_cmp nat_cmp x.bytes y.bytes) a b).bytes b.bytes → ⊥)
+highest_of a b = by (slice_cmp nat_cmp b.bytes a.bytes) (lower_agrees b.bytes a.bytes)
+  where
+    by : (o : Ordering) → MatchOrdering o (Lower b.bytes a.bytes) (b.bytes ≡ a.bytes) (Lower a.bytes b.bytes) →
+        ((s : List ℕ) → (Lower a.bytes s → ⊥) → Lower (cond (is_lt o) a b).bytes s → ⊥) × (Lower (cond (is_lt o) a b).bytes b.bytes → ⊥)
+    by Less h = (λ s n. n, λ l. lower_irreflexive a.bytes (lower_transitive a.bytes b.bytes a.bytes l h))
+    by Equal h = (λ s n l. n (subst (λ t. Lower t s) h l), lower_irreflexive b.bytes)
+    by Greater h = (λ s n l. n (lower_transitive a.bytes b.bytes s h l), lower_irreflexive b.bytes)
 
 other : (s t : List ℕ) (x : Bool) → same s t ≡ x → (s ≡ t → ⊥) → not x ≡ true
 other s t false e differ = refl

@@ -9,8 +9,8 @@ pub mod Lines
 mod Marked
 mod NameTexts
 pub mod Names
-pub mod Orders
 mod Stepping
+mod Tries
 pub mod Turns
 pub mod Written
 mod Writing

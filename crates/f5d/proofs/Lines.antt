@@ -10,10 +10,12 @@ use Rattle.official_time.specs.Texts.{label_text}
 use Rattle.official_time.specs.declared.label.Label.{Label}
 use Rattle.official_time.proofs.Dates.{within}
 use Rattle.official_time.proofs.Hours.{flag_small, label_from, label_to}
-use Rattle.vocabulary.specs.Codes.{code_byte, every, is_invoice, is_supply, visible}
+use Rattle.vocabulary.specs.Codes.{code_byte, is_invoice, is_supply, visible}
+use Rattle.std.specs.List.{list_all}
 use Rattle.vocabulary.specs.Ranges.{between}
 use Rattle.f5d.specs.Records.{Begins, can_bear, ended, fields, FirstBad, IsLine, line_length, Record}
-use Rattle.f5d.specs.Reading.{bad, clock_written, digit, ends_at, good, label_under, leading, LineReading, LineHere, LineRead, number, one_digit, read_empty, read_energy, read_firmness, read_flag, read_invoice, read_label, read_line, read_method, RightLine}
+use Rattle.f5d.specs.Reading.{bad, clock_written, ends_at, good, label_under, leading, LineReading, LineHere, LineRead, number, one_digit, read_empty, read_energy, read_firmness, read_flag, read_invoice, read_label, read_line, read_method, RightLine}
+use Rattle.vocabulary.specs.Codes.{digit}
 use Rattle.f5d.proofs.Fields.{all_pass, clock_passes, clock_there, ended_apart, ended_rest, ended_there, energy_passes, energy_there, every_weaker, invoice_passes, invoice_there, invoice_written, label_back, label_passes, label_unended, number_written, numerals, one_digit_passes, one_digit_there, passes_all, supply_passes, supply_there, unended}
 
 -- ## Records that lines can bear
@@ -86,10 +88,10 @@ one_front (suc n) (f ∷ fs) (g ∷ gs) a x y e =
     let k = one_front n fs gs a.1 x y h.1 in
     ((λ i. h.0 i ∷ k.0 i), k.1)
 
-text_apart : (s t : List ℕ) → every unended s ≡ true → every unended t ≡ true → (x y : List ℕ) → ended s ++ x ≡ ended t ++ y → (ended s ≡ ended t) × (x ≡ y)
+text_apart : (s t : List ℕ) → list_all unended s ≡ true → list_all unended t ≡ true → (x y : List ℕ) → ended s ++ x ≡ ended t ++ y → (ended s ≡ ended t) × (x ≡ y)
 text_apart s t p q x y e = let h = ended_apart s t x y p q (sym (ended_rest s x) ∙ e ∙ ended_rest t y) in (ap ended h.0, h.1)
 
-last_apart : (s t : List ℕ) → every unended s ≡ true → every unended t ≡ true → (x y : List ℕ) → (s ++ 59 ∷ 10 ∷ []) ++ x ≡ (t ++ 59 ∷ 10 ∷ []) ++ y → (s ++ 59 ∷ 10 ∷ [] ≡ t ++ 59 ∷ 10 ∷ []) × (x ≡ y)
+last_apart : (s t : List ℕ) → list_all unended s ≡ true → list_all unended t ≡ true → (x y : List ℕ) → (s ++ 59 ∷ 10 ∷ []) ++ x ≡ (t ++ 59 ∷ 10 ∷ []) ++ y → (s ++ 59 ∷ 10 ∷ [] ≡ t ++ 59 ∷ 10 ∷ []) × (x ≡ y)
 last_apart s t p q x y e =
     let h = ended_apart s t (10 ∷ x) (10 ∷ y) p q (sym (append_assoc s (59 ∷ 10 ∷ []) x) ∙ e ∙ append_assoc t (59 ∷ 10 ∷ []) y) in
     (ap (λ u. u ++ 59 ∷ 10 ∷ []) h.0, ap (drop 1) h.1)
@@ -104,21 +106,21 @@ digit_unended b h = let w = within 48 57 b h in not_from_false _ (ne_eqb b 59 (�
 figure_apart : (v w : ℕ) → v ≤ 9 → w ≤ 9 → (x y : List ℕ) → ended ((48 + v) ∷ []) ++ x ≡ ended ((48 + w) ∷ []) ++ y → (ended ((48 + v) ∷ []) ≡ ended ((48 + w) ∷ [])) × (x ≡ y)
 figure_apart v w l m = text_apart ((48 + v) ∷ []) ((48 + w) ∷ []) (one v l) (one w m)
   where
-    one : (u : ℕ) → u ≤ 9 → every unended ((48 + u) ∷ []) ≡ true
+    one : (u : ℕ) → u ≤ 9 → list_all unended ((48 + u) ∷ []) ≡ true
     one u n = and_from _ true (not_from_false _ (ne_eqb (48 + u) 59 (λ e. omega arith))) refl
 
 module _ (l : Label) (r : Record) (b : Borne l r) where
-  supply_unended : every unended r.supply ≡ true
-  supply_unended = every_weaker code_byte unended code_unended r.supply (and_parts (eqb (length r.supply) 22) (every code_byte r.supply) b.parts.supply).1
+  supply_unended : list_all unended r.supply ≡ true
+  supply_unended = every_weaker code_byte unended code_unended r.supply (and_parts (eqb (length r.supply) 22) (list_all code_byte r.supply) b.parts.supply).1
 
   flag_figure : l.flag ≤ 1
   flag_figure = let s = b.labels.season in let t = flag_small r.hour in omega arith
 
-  energy_unended : every unended (decimal r.wh) ≡ true
+  energy_unended : list_all unended (decimal r.wh) ≡ true
   energy_unended = let w = b.parts.wh in every_weaker digit unended digit_unended (decimal r.wh) (digits_decimal numerals r.wh (omega arith))
 
-  invoice_unended : every unended r.invoice ≡ true
-  invoice_unended = every_weaker visible unended (λ c h. (and_parts (between 33 126 c) (unended c) h).1) r.invoice (and_parts (between 1 26 (length r.invoice)) (every visible r.invoice) b.parts.invoice).1
+  invoice_unended : list_all unended r.invoice ≡ true
+  invoice_unended = every_weaker visible unended (λ c h. (and_parts (between 33 126 c) (unended c) h).1) r.invoice (and_parts (between 1 26 (length r.invoice)) (list_all visible r.invoice) b.parts.invoice).1
 
 pub fields_apart : (l k : Label) (r q : Record) → Borne l r → Borne k q → Apart (fields l r) (fields k q)
 fields_apart l k r q b c =
@@ -342,7 +344,7 @@ read_right bytes =
 
 pub line_long : (r : Record) (line : List ℕ) → can_bear r ≡ true → IsLine r line → length line ≡ line_length r
 line_long r line b is =
-    let s = eqb-true (length r.supply) 22 (and_parts (eqb (length r.supply) 22) (every code_byte r.supply) (bearable r b).supply).0 in
+    let s = eqb-true (length r.supply) 22 (and_parts (eqb (length r.supply) 22) (list_all code_byte r.supply) (bearable r b).supply).0 in
     ap length is.written ∙ simp length-append (omega arith)
 
 pub line_least : (r : Record) → can_bear r ≡ true → 56 ≤ line_length r
@@ -350,7 +352,7 @@ line_least r b =
     let p = bearable r b in
     let wh = p.wh in
     let some = decimal_nonempty r.wh (omega arith) in
-    let i = within 1 26 (length r.invoice) (and_parts (between 1 26 (length r.invoice)) (every visible r.invoice) p.invoice).0 in
+    let i = within 1 26 (length r.invoice) (and_parts (between 1 26 (length r.invoice)) (list_all visible r.invoice) p.invoice).0 in
     omega arith
 
 -- less is left behind it

@@ -1,6 +1,5 @@
 -- Marks that are left stay.
-use Rattle.std.proofs.Common.{◌≡◌, ℕ, zero, suc, Bool, true, false, ◌&&◌, List, [], ◌∷◌, length, get_or, set, refl, arith, length-set}
-use Rattle.std.proofs.lemmas.List.{get_or-set_same}
+use Rattle.std.proofs.Common.{◌≡◌, ℕ, zero, suc, Bool, true, false, ◌&&◌, List, [], ◌∷◌, get_or, set, refl}
 use Rattle.std.proofs.lemmas.Bool.{and_from, and_parts}
 use Rattle.f5d.specs.Marking.{all_marked, place}
 
@@ -41,23 +40,3 @@ pub all_kept : (m : List Bool) (i n : ℕ) → all_marked m n ≡ true → all_m
 all_kept m i n e =
     let f = four m n e in
     from_four (set m i true) n (record { first = mark_kept m i (place n 1) f.first; second = mark_kept m i (place n 65536) f.second; third = mark_kept m i (place n 4294967296) f.third; fourth = mark_kept m i (place n 281474976710656) f.fourth })
-
--- after marks at the four places, all four are there
-pub all_left : (m : List Bool) (n : ℕ) → length m ≡ 65536 → all_marked (set (set (set (set m (place n 1) true) (place n 65536) true) (place n 4294967296) true) (place n 281474976710656) true) n ≡ true
-all_left m n l =
-    let p1 = place n 1 in
-    let p2 = place n 65536 in
-    let p3 = place n 4294967296 in
-    let p4 = place n 281474976710656 in
-    let m1 = set m p1 true in
-    let m2 = set m1 p2 true in
-    let m3 = set m2 p3 true in
-    let l1 = length-set m p1 true in
-    let l2 = length-set m1 p2 true in
-    let l3 = length-set m2 p3 true in
-    let f1 = get_or-set_same m p1 true false (omega arith) in
-    let f2 = get_or-set_same m1 p2 true false (omega arith) in
-    let f3 = get_or-set_same m2 p3 true false (omega arith) in
-    let f4 = get_or-set_same m3 p4 true false (omega arith) in
-    from_four (set m3 p4 true) n
-    (record { first = mark_kept m3 p4 p1 (mark_kept m2 p3 p1 (mark_kept m1 p2 p1 f1)); second = mark_kept m3 p4 p2 (mark_kept m2 p3 p2 f2); third = mark_kept m3 p4 p3 f3; fourth = f4 })

@@ -8,9 +8,11 @@ use Rattle.official_time.specs.Dates.{is_date, on}
 use Rattle.official_time.specs.Texts.{two_digits}
 use Rattle.official_time.specs.declared.date.Date.{Date}
 use Rattle.official_time.proofs.Texts.{by_places, first_places, real_short}
-use Rattle.vocabulary.specs.Codes.{code_byte, every, is_participant}
+use Rattle.vocabulary.specs.Codes.{code_byte, is_participant}
+use Rattle.std.specs.List.{list_all}
 use Rattle.f5d.specs.Records.{same}
-use Rattle.f5d.specs.Reading.{digit, leading, number, pair, pair_number}
+use Rattle.f5d.specs.Reading.{leading, number, pair, pair_number}
+use Rattle.vocabulary.specs.Codes.{digit}
 use Rattle.f5d.specs.Names.{date_digits, is_name, IsName, Name, NameReading, name_text, named_behind, read_name, RightName, version_written, word_text}
 use Rattle.f5d.specs.declared.name.Word.{Word}
 use Rattle.f5d.specs.declared.name.Word.TheVariants.{F5d, Rf5d}
@@ -19,12 +21,12 @@ use Rattle.f5d.proofs.Turns.{same_true}
 
 -- ## The version
 
-leading_all : (p : ℕ → Bool) (n : ℕ) (xs : List ℕ) → every p xs ≡ true → length xs ≤ n → leading p n xs ≡ length xs
+leading_all : (p : ℕ → Bool) (n : ℕ) (xs : List ℕ) → list_all p xs ≡ true → length xs ≤ n → leading p n xs ≡ length xs
 leading_all p zero [] h l = refl
 leading_all p zero (x ∷ xs) h l = absurd (omega arith)
 leading_all p (suc n) [] h l = refl
 leading_all p (suc n) (x ∷ xs) h l =
-    let k = and_parts (p x) (every p xs) h in
+    let k = and_parts (p x) (list_all p xs) h in
     cond-true (p x) (suc (leading p n xs)) 0 k.0 ∙ ap suc (leading_all p n xs k.1 (omega arith))
 
 abbrev version_tests : List ℕ → List Bool
@@ -37,7 +39,7 @@ version_there b h =
     let short = leb-true (length b) 3 t.1.0 in
     let leads = eqb-true (leading digit 3 b) (length b) t.1.1.0 in
     let small = leb-true (number 0 b) 255 t.1.1.1.1.0 in
-    let digits : every digit b ≡ true = ap (every digit) (sym (ap (λ k. take k b) leads ∙ take-length b)) ∙ leading_pass digit 3 b in
+    let digits : list_all digit b ≡ true = ap (list_all digit) (sym (ap (λ k. take k b) leads ∙ take-length b)) ∙ leading_pass digit 3 b in
     (small, (decimal_back b digits some (omega arith) t.1.1.1.0).1)
 
 version_passes : (v : ℕ) → v ≤ 255 → version_written (decimal v) ≡ true
@@ -138,7 +140,7 @@ behind_back n h =
     (places_back n.word (λ i. get_or n.distributor i 0) (λ i. get_or n.retailer i 0) n.date n.version (ap is_participant (sym a) ∙ t.0) (ap is_participant (sym b) ∙ t.1.0) t.1.1.0 (leb-true n.version 255 t.1.1.1.0))
   where
     long : (s : List ℕ) → is_participant s ≡ true → length s ≡ 4
-    long s p = eqb-true (length s) 4 (and_parts (eqb (length s) 4) (every code_byte s) p).0
+    long s p = eqb-true (length s) 4 (and_parts (eqb (length s) 4) (list_all code_byte s) p).0
 
 -- ## The whole name
 

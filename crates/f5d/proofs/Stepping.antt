@@ -8,7 +8,8 @@ use Rattle.std.proofs.lemmas.Bool.Decides.{nat_tests}
 use Rattle.official_time.specs.Hours.{is_label, meant}
 use Rattle.vocabulary.specs.Codes.{is_invoice, is_supply, visible}
 use Rattle.vocabulary.specs.Ranges.{between}
-use Rattle.f5d.specs.Reading.{bad, clock_written, digit, ends_at, good, label_under, leading, LineRead, number, one_digit, read_empty, read_energy, read_firmness, read_flag, read_invoice, read_label, read_line, read_method}
+use Rattle.f5d.specs.Reading.{bad, clock_written, ends_at, good, label_under, leading, LineRead, number, one_digit, read_empty, read_energy, read_firmness, read_flag, read_invoice, read_label, read_line, read_method}
+use Rattle.vocabulary.specs.Codes.{digit}
 use Rattle.f5d.specs.Records.{Record}
 use Rattle.f5d.specs.Told.{clock_right, energy_right, flag_right, flag_written, invoice_right}
 use Rattle.f5d.proofs.Leading.{invoice_leading}
@@ -62,10 +63,9 @@ invoice_tested b count x e h =
     (λ i. leb 1 (sym e i) && ends_at b (sym e i) && eqb (get_or b (suc (sym e i)) 0) 10) ∙ ap (λ k. leb 1 count && ends_at b count && eqb (get_or b k 0) 10) next ∙ sym h
 
 -- visible bytes, one or more, are not refused as a code
-pub invoice_not_refused : (b : List ℕ) (count : ℕ) → count ≡ leading visible 26 b → 1 ≤ count → is_invoice (take (count - 0) b) ≡ false → ⊥
+pub invoice_not_refused : (b : List ℕ) (count : ℕ) → count ≡ leading visible 26 b → 1 ≤ count → is_invoice (take count b) ≡ false → ⊥
 invoice_not_refused b count e some h =
-    let same : count - 0 ≡ leading visible 26 b = omega arith in
-    clash (sym h ∙ ap (λ k. is_invoice (take k b)) same ∙ invoice_leading b (omega arith))
+    clash (sym h ∙ ap (λ k. is_invoice (take k b)) e ∙ invoice_leading b (omega arith))
 
 module _ (supply : List ℕ) (hour : ℕ) where
   -- D is read, and the reading goes on behind it
@@ -74,9 +74,6 @@ module _ (supply : List ℕ) (hour : ℕ) where
       let next : suc (leading digit 10 b) ≡ count + 1 = omega arith in
       ap (λ x. cond x (read_empty 5 supply hour (number 0 (take (leading digit 10 b) b)) (drop (suc (leading digit 10 b)) b)) (bad 3)) right
       ∙ (λ i. read_empty 5 supply hour ((ap (λ k. number 0 (take k b)) (sym counted) ∙ sym valued) i) ((ap (λ k. drop k b) next ∙ sym left) i))
-
-  pub energy_off : (b : List ℕ) → energy_right b ≡ false → read_energy supply hour b ≡ bad 3
-  energy_off b wrong = ap (λ x. cond x (read_empty 5 supply hour (number 0 (take (leading digit 10 b) b)) (drop (suc (leading digit 10 b)) b)) (bad 3)) wrong
 
   module _ (wh : ℕ) (rest : List ℕ) where
     pub method_off : one_digit 1 6 (drop 5 rest) ≡ false → read_method supply hour wh (drop 5 rest) ≡ bad 9

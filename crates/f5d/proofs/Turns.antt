@@ -115,9 +115,6 @@ in_turn_before p q r rs last behind (inr k) =
     go true false e f = absurd (true≢false (sym (ap not (same_turned r.supply p.supply ∙ ap (same p.supply) (sym (same_true q.supply r.supply e)) ∙ last k.0)) ∙ f))
     go false c e f = refl
 
-pub in_turn_one : (r : Record) → in_turn (r ∷ []) ≡ true
-in_turn_one r = refl
-
 -- behind records in turn, of which q is the last one, just such a record is in turn
 pub in_turn_more : (front : List Record) (q r : Record) → in_turn (front ++ q ∷ []) ≡ true → in_turn ((front ++ q ∷ []) ++ r ∷ []) ≡ cond (same q.supply r.supply) (ltb q.hour r.hour) (apart r.supply (front ++ q ∷ []))
 in_turn_more [] q r h = go (same q.supply r.supply) (same_turned r.supply q.supply)

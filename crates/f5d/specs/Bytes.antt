@@ -2,6 +2,11 @@
 use Rattle.std.specs.Prelude.{◌≡◌, ℕ, ◌<◌, ◌⊎◌, List, [], ◌∷◌, refl}
 use Rattle.std.proofs.Common.{inl, inr, ⊎_elim, arith}
 use Rattle.std.proofs.lemmas.Bool.{cases_order}
+use Rattle.std.specs.Cmp.{ranks}
+use Rattle.std.specs.Cmp.Lexicographic.{slice_cmp}
+use Rattle.std.specs.declared.cmp.Ordering.{Ordering}
+use Rattle.std.specs.declared.cmp.Ordering.TheVariants.{Less, Equal, Greater}
+use Rattle.std.specs.Ordering.{MatchOrdering, nat_cmp, ordering_then}
 
 abbrev pub Lower : List ℕ → List ℕ → Type 0
 Lower [] [] = ⊥
@@ -34,3 +39,17 @@ lower_total (x ∷ xs) (y ∷ ys) = ⊎_elim (λ e. same e (lower_total xs ys)) 
   where
     same : x ≡ y → Lower xs ys ⊎ ((xs ≡ ys) ⊎ Lower ys xs) → Lower (x ∷ xs) (y ∷ ys) ⊎ ((◌≡◌ {A = List ℕ} (x ∷ xs) (y ∷ ys)) ⊎ Lower (y ∷ ys) (x ∷ xs))
     same e = ⊎_elim (λ l. inl (inr (e, l))) (⊎_elim (λ f. inr (inl (λ i. e i ∷ f i))) (λ g. inr (inr (inr (omega arith, g)))))
+
+-- bytes compared agree with it
+pub lower_agrees : (xs ys : List ℕ) → MatchOrdering (slice_cmp nat_cmp xs ys) (Lower xs ys) (xs ≡ ys) (Lower ys xs)
+lower_agrees [] [] = refl
+lower_agrees [] (y ∷ ys) = tt
+lower_agrees (x ∷ xs) [] = tt
+lower_agrees (x ∷ xs) (y ∷ ys) = by (nat_cmp x y) (ranks x y) (slice_cmp nat_cmp xs ys) (lower_agrees xs ys)
+  where
+    by : (r : Ordering) → MatchOrdering r (x < y) (x ≡ y) (y < x) → (q : Ordering) → MatchOrdering q (Lower xs ys) (xs ≡ ys) (Lower ys xs) → MatchOrdering (ordering_then r q) (Lower (x ∷ xs) (y ∷ ys)) (◌≡◌ {A = List ℕ} (x ∷ xs) (y ∷ ys)) (Lower (y ∷ ys) (x ∷ xs))
+    by Less l q h = inl l
+    by Greater l q h = inl l
+    by Equal e Less h = inr (e, h)
+    by Equal e Equal h = λ i. e i ∷ h i
+    by Equal e Greater h = inr (omega arith, h)

@@ -1,6 +1,5 @@
 -- What the program's names of files mean.
-use Rattle.std.specs.Prelude.{ℕ, ◌+◌, ◌/◌, ◌%◌, List, ◌∷◌, Some, None, Option}
-use Rattle.official_time.specs.Texts.{two_digits}
+use Rattle.std.specs.Prelude.{Some, None, Option}
 use Rattle.f5d.specs.Names.{Name}
 use Rattle.f5d.specs.declared.file_name.FileName.{FileName}
 
@@ -10,7 +9,3 @@ name_of n = record { word = n.word; distributor = n.distributor.bytes; retailer 
 abbrev pub name_told : Option FileName → Option Name
 name_told None = None
 name_told (Some n) = Some (name_of n)
-
--- the last three digits of n
-abbrev pub three_digits : ℕ → List ℕ
-three_digits n = (48 + n / 100 % 10) ∷ two_digits n

@@ -3,7 +3,6 @@ pub mod Bytes
 pub mod FileNames
 pub mod Marking
 pub mod Meanings
-pub mod Methods
 pub mod Names
 pub mod Passing
 pub mod Reading

@@ -1,6 +1,6 @@
 -- What the program's records mean.
 use Rattle.std.specs.Prelude.{ℕ, List, take}
-use Rattle.f5d.specs.Methods.{firmness_number, method_number}
+use Rattle.vocabulary.specs.Methods.{firmness_number, method_number}
 use Rattle.f5d.specs.Records.{Record}
 use Rattle.f5d.specs.declared.billed.BilledHour.{BilledHour}
 use Rattle.f5d.specs.declared.hours.HourRecord.{HourRecord}

@@ -5,7 +5,8 @@ use Rattle.official_time.specs.Texts.{four_digits, two_digits}
 use Rattle.official_time.specs.declared.date.Date.{Date}
 use Rattle.vocabulary.specs.Codes.{is_participant}
 use Rattle.f5d.specs.Records.{same}
-use Rattle.f5d.specs.Reading.{digit, leading, number, pair, pair_number}
+use Rattle.f5d.specs.Reading.{leading, number, pair, pair_number}
+use Rattle.vocabulary.specs.Codes.{digit}
 use Rattle.f5d.specs.declared.name.Word.{Word}
 use Rattle.f5d.specs.declared.name.Word.TheVariants.{F5d, Rf5d}
 

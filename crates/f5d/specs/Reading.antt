@@ -3,7 +3,7 @@ use Rattle.std.specs.Prelude.{◌≡◌, ℕ, zero, suc, ◌+◌, ◌-◌, ◌*�
 use Rattle.official_time.specs.Dates.{on}
 use Rattle.official_time.specs.Hours.{is_label, meant}
 use Rattle.official_time.specs.declared.label.Label.{Label}
-use Rattle.vocabulary.specs.Codes.{is_supply, visible}
+use Rattle.vocabulary.specs.Codes.{digit, is_supply, visible}
 use Rattle.vocabulary.specs.Ranges.{between}
 use Rattle.f5d.specs.Records.{Record, can_bear, FirstBad, Holds, in_turn, IsLine, Malformed, OutOfTurn}
 
@@ -11,9 +11,6 @@ use Rattle.f5d.specs.Records.{Record, can_bear, FirstBad, Holds, in_turn, IsLine
 pub data LineRead : Type 0 where
   bad : ℕ → LineRead
   good : Record → List ℕ → LineRead
-
-abbrev pub digit : ℕ → Bool
-digit b = between 48 57 b
 
 -- at place k stands `;`
 abbrev pub ends_at : List ℕ → ℕ → Bool

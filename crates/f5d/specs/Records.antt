@@ -1,6 +1,7 @@
 -- The record of an hour, its line, and which bytes are a file of records.
-use Rattle.std.specs.Prelude.{◌≡◌, ℕ, suc, ◌+◌, ◌<◌, Bool, true, false, cond, not, ◌&&◌, ◌||◌, List, [], ◌∷◌, ◌++◌, length, take, decimal, ◌==◌, nat_le, nat_lt}
-use Rattle.std.specs.List.{concat}
+use Rattle.std.specs.Prelude.{◌≡◌, ℕ, suc, ◌+◌, ◌<◌, Bool, true, false, cond, not, ◌&&◌, ◌||◌, List, [], ◌∷◌, ◌++◌, length, take, decimal, ◌==◌, nat_eq, nat_le, nat_lt}
+use Rattle.std.specs.Cmp.Lexicographic.{pointwise}
+use Rattle.std.specs.List.{concat, list_all}
 use Rattle.official_time.specs.Hours.{is_hour, IsLabel}
 use Rattle.official_time.specs.Texts.{label_text}
 use Rattle.official_time.specs.declared.label.Label.{Label}
@@ -65,10 +66,7 @@ pub data Lines : List Record → List ℕ → Type 0 where
 -- ## The order of records in a file
 
 abbrev pub same : List ℕ → List ℕ → Bool
-same [] [] = true
-same [] (y ∷ ys) = false
-same (x ∷ xs) [] = false
-same (x ∷ xs) (y ∷ ys) = x == y && same xs ys
+same = pointwise nat_eq
 
 -- no record is of this supply
 abbrev pub apart : List ℕ → List Record → Bool
@@ -88,8 +86,7 @@ in_turn (r ∷ rs) = follows_on r rs && in_turn rs
 -- ## Which bytes are a file, and what is wrong with others
 
 abbrev pub every_record : (Record → Bool) → List Record → Bool
-every_record q [] = true
-every_record q (r ∷ rs) = q r && every_record q rs
+every_record = list_all
 
 -- a file holds these records: one or more that lines can bear, in turn, and their lines are the bytes
 pub record Holds (bytes : List ℕ) (rs : List Record) : Type 0 where

@@ -6,9 +6,11 @@ use Rattle.vocabulary.specs.Codes.{visible}
 use Rattle.vocabulary.specs.Refusals.{letter}
 use Rattle.vocabulary.specs.declared.refusal.Field.{Field}
 use Rattle.f5d.specs.Meanings.{billed_record, record_of}
-use Rattle.f5d.specs.Reading.{LineRead, bad, digit, ends_at, good, label_under, leading, one_digit}
-use Rattle.f5d.specs.declared.line.BilledFields.{BilledFields}
-use Rattle.f5d.specs.declared.line.Line.{Line}
+use Rattle.f5d.specs.Reading.{LineRead, bad, ends_at, good, label_under, leading, one_digit}
+use Rattle.vocabulary.specs.Codes.{digit}
+use Rattle.f5d.specs.declared.billed.BilledHour.{BilledHour}
+use Rattle.f5d.specs.declared.hours.HourRecord.{HourRecord}
+use Rattle.f5d.specs.declared.line.Taken.{Taken}
 
 -- the flag that is written behind a clock, and whether some hour has the label under it
 abbrev pub flag_written : List ℕ → ℕ
@@ -38,11 +40,11 @@ hour_told next (Ok h) = next h.number
 hour_told next (Err f) = bad (place_of f)
 
 -- the fields from D on, of an hour of a supply
-abbrev pub billed_told : List ℕ → ℕ → List ℕ → Result BilledFields Field → LineRead
-billed_told supply hour bytes (Ok b) = good (billed_record supply hour b.billed) (drop b.length bytes)
+abbrev pub billed_told : List ℕ → ℕ → List ℕ → Result (Taken BilledHour) Field → LineRead
+billed_told supply hour bytes (Ok b) = good (billed_record supply hour b.value) (drop b.length bytes)
 billed_told supply hour bytes (Err f) = bad (place_of f)
 
 -- a whole line
-abbrev pub line_told : List ℕ → Result Line Field → LineRead
-line_told bytes (Ok l) = good (record_of l.record) (drop l.length bytes)
+abbrev pub line_told : List ℕ → Result (Taken HourRecord) Field → LineRead
+line_told bytes (Ok l) = good (record_of l.value) (drop l.length bytes)
 line_told bytes (Err f) = bad (place_of f)

@@ -1,8 +1,7 @@
 // What a file tells of an hour.
 ghost use Rattle.std.specs.Prelude.{◌≡◌, ◌<◌, ◌≤◌, MatchOption};
 
-use crate::method::{Firmness, Method};
-use vocabulary::{InvoiceCode, Wh};
+use vocabulary::{Firmness, InvoiceCode, Method, Wh};
 
 // The energy of an hour, how it was come by, whether it is firm, and the invoice. The energy has ten digits at
 // most, so that every such hour has a line.
@@ -21,12 +20,7 @@ impl BilledHour {
         ensures { MatchOption result (9999999999 < energy.0) (λ b. (b.energy ≡ energy) × (b.method ≡ method) × (b.firmness ≡ firmness) × (b.invoice ≡ invoice)) }
     {
         if energy.fits_record() {
-            Some(BilledHour {
-                energy,
-                method,
-                firmness,
-                invoice,
-            })
+            Some(BilledHour::of(energy, method, firmness, invoice))
         } else {
             None
         }

@@ -1,52 +1,28 @@
 // Files, checked whole.
-ghost use Rattle.std.specs.Prelude.{◌≡◌, ℕ, ◌+◌, ◌<◌, ◌≤◌, true, false, cond, not, List, [], ◌∷◌, ◌++◌, length, IfOk, MatchResult, nat_lt};
-ghost use Rattle.f5d.specs.Bytes.{Lower};
+ghost use Rattle.std.specs.Prelude.{◌≡◌, ℕ, ◌+◌, ◌<◌, ◌≤◌, true, false, List, [], ◌∷◌, ◌++◌, length, drop, IfOk, MatchResult};
 ghost use Rattle.f5d.specs.Passing.{Knows, Passed, RefusedFile};
-ghost use Rattle.f5d.specs.Reading.{FileReading};
-ghost use Rattle.f5d.specs.Records.{apart, can_bear, every_record, Holds, in_turn, Lines, Record, same};
-ghost use Rattle.vocabulary.specs.Refusals.{notice};
+ghost use Rattle.f5d.specs.Meanings.{record_of};
+ghost use Rattle.f5d.specs.Reading.{FileReading, LineHere};
+ghost use Rattle.f5d.specs.Records.{apart, can_bear, every_record, FirstBad, Holds, in_turn, Lines, Record};
+ghost use Rattle.vocabulary.specs.Refusals.{in_line, notice};
 
 use crate::hours::{HourRecord, SupplyHour};
-use crate::key::{compare_codes, same_code};
+use crate::line::Line;
 use crate::marks::Marks;
 use crate::passed::Turns;
-use official_time::Hour;
-use std::cmp::Ordering;
+use crate::records::Records;
 use vocabulary::{Refusal, SupplyCode};
 
-// The higher of two codes.
-fn higher(code: SupplyCode, other: SupplyCode) -> SupplyCode
-    ensures above { (s : List ℕ) → (Lower code.bytes s → ⊥) → Lower result.bytes s → ⊥ }
-    ensures other { Lower result.bytes other.bytes → ⊥ }
-{
-    match compare_codes(&code, &other) {
-        Ordering::Less => other,
-        _ => code,
-    }
-}
-
-// Whether no line is of the supply; all lines are gone through.
+// Whether no line is of the supply; they are gone through until one is.
 fn lacks(bytes: &[u8], supply: &SupplyCode) -> bool
     ensures { (done : List Record) → Lines done bytes.now → every_record can_bear done ≡ true → result ≡ apart supply.now.bytes done }
 {
-    let mut at = 0;
-    while at < bytes.len() {
-        let Ok(line) = HourRecord::read_line(&bytes[at..]) else {
-            return true;
-        };
-        if same_code(supply, &line.record.at.supply) {
+    for record in Records::new(bytes) {
+        if *supply == record.at.supply {
             return false;
         }
-        at += line.length;
     }
     true
-}
-
-// Whether an hour comes after another.
-fn is_after(hour: Hour, other: Hour) -> bool
-    ensures { result ≡ nat_lt other.number hour.number }
-{
-    other.number() < hour.number()
 }
 
 impl Turns {
@@ -68,18 +44,15 @@ impl Turns {
     fn is_new(&self, supply: &SupplyCode, passed: &[u8]) -> bool
         ensures { (done : List Record) → Knows self.now done → Lines done passed.now → every_record can_bear done ≡ true → result ≡ apart supply.now.bytes done }
     {
-        match compare_codes(&self.highest, supply) {
-            Ordering::Less => true,
-            _ => !self.marks.has(supply) || lacks(passed, supply),
-        }
+        self.highest.cmp(supply).is_lt() || !self.marks.has(supply) || lacks(passed, supply)
     }
 
     // Whether a record may come next.
     fn allows(&self, next: &SupplyHour, passed: &[u8]) -> bool
         ensures { (done : List Record) (q : Record) → Knows self.now done → Lines done passed.now → every_record can_bear done ≡ true → in_turn done ≡ true → q.supply ≡ next.now.supply.bytes → q.hour ≡ next.now.hour.number → result ≡ in_turn (done ++ q ∷ []) }
     {
-        if same_code(&self.last.supply, &next.supply) {
-            is_after(next.hour, self.last.hour)
+        if self.last.supply == next.supply {
+            self.last.hour < next.hour
         } else {
             self.is_new(&next.supply, passed)
         }
@@ -89,14 +62,22 @@ impl Turns {
     fn pass(&mut self, next: SupplyHour)
         ensures { (done : List Record) (q : Record) → Knows self.old done → q.supply ≡ next.supply.bytes → q.hour ≡ next.hour.number → Knows self.new (done ++ q ∷ []) }
     {
-        if same_code(&self.last.supply, &next.supply) {
+        if self.last.supply == next.supply {
             self.last = next;
             return;
         }
         self.marks.note(&next.supply);
-        self.highest = higher(self.highest, next.supply);
+        self.highest = self.highest.max(next.supply);
         self.last = next;
     }
+}
+
+// Reads the line that the bytes begin with, which is line `line` of its file.
+fn read_line(bytes: &[u8], line: usize) -> Result<Line, Refusal>
+    ensures read { MatchResult result (λ l. LineHere bytes.now (record_of l.value) (drop l.length bytes.now)) (λ e. (f : ℕ) × FirstBad f bytes.now × (notice e ≡ in_line 13 line (65 + f))) }
+    ensures within { IfOk result (λ l. l.length ≤ length bytes.now) }
+{
+    HourRecord::read_line(bytes).map_err(|field| Refusal::MalformedLine { line, field })
 }
 
 // Reads the line at a place, which is line `line`, behind records that were passed, and gives its length.
@@ -105,14 +86,11 @@ fn next_line(turns: &mut Turns, bytes: &[u8], at: usize, line: usize) -> Result<
     ensures read { (done : List Record) → Knows turns.old done → Passed bytes.now at done → line ≡ length done + 1 → MatchResult result (λ n. (q : Record) × Knows turns.new (done ++ q ∷ []) × Passed bytes.now (at + n) (done ++ q ∷ [])) (λ e. RefusedFile bytes.now (notice e)) }
     ensures within { IfOk result (λ n. (0 < n) × (at + n ≤ length bytes.now)) }
 {
-    let next = match HourRecord::read_line(&bytes[at..]) {
-        Ok(next) => next,
-        Err(field) => return Err(Refusal::MalformedLine { line, field }),
-    };
-    if !turns.allows(&next.record.at, &bytes[0..at]) {
+    let next = read_line(&bytes[at..], line)?;
+    if !turns.allows(&next.value.at, &bytes[..at]) {
         return Err(Refusal::OutOfTurn { line });
     }
-    turns.pass(next.record.at);
+    turns.pass(next.value.at);
     Ok(next.length)
 }
 
@@ -123,11 +101,8 @@ pub fn check_file(bytes: &[u8]) -> Result<usize, Refusal>
     ensures cases { MatchResult result (λ n. (rs : List Record) × Holds bytes.now rs × (n ≡ length rs)) (λ e. RefusedFile bytes.now (notice e)) }
     ensures one_reading { FileReading }
 {
-    let first = match HourRecord::read_line(bytes) {
-        Ok(first) => first,
-        Err(field) => return Err(Refusal::MalformedLine { line: 1, field }),
-    };
-    let mut turns = Turns::begin(first.record.at);
+    let first = read_line(bytes, 1)?;
+    let mut turns = Turns::begin(first.value.at);
     let mut at = first.length;
     let mut line = 1;
     while at < bytes.len() {

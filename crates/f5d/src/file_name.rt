@@ -29,16 +29,14 @@ impl FileName {
     ) -> Result<FileName, Refusal>
         ensures { MatchResult result (λ n. (is_date date ≡ true) × (n.word ≡ word) × (n.distributor ≡ distributor) × (n.retailer ≡ retailer) × (n.date ≡ date) × (n.version ≡ version)) (λ e. (notice e ≡ plain 16) × (is_date date ≡ false)) }
     {
-        match date.day() {
-            Ok(_) => Ok(FileName {
-                word,
-                distributor,
-                retailer,
-                date,
-                version,
-            }),
-            Err(refusal) => Err(refusal),
-        }
+        date.day()?;
+        Ok(FileName {
+            word,
+            distributor,
+            retailer,
+            date,
+            version,
+        })
     }
 
     pub fn word(&self) -> Word

@@ -4,7 +4,7 @@ use official_time::Hour;
 use vocabulary::SupplyCode;
 
 // An hour of a supply: what a record is about.
-#[derive(Clone, Copy)]
+#[derive(Clone, Copy, PartialEq, Eq, PartialOrd, Ord, Debug)]
 pub struct SupplyHour {
     pub supply: SupplyCode,
     pub hour: Hour,

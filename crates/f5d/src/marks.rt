@@ -1,6 +1,7 @@
 // A fixed table of marks, which tells of most supplies that they were not seen.
 ghost use Rattle.std.specs.Prelude.{◌≡◌, ℕ, ◌<◌, true, false, List};
-ghost use Rattle.f5d.specs.Marking.{marked, mixed, place};
+ghost use Rattle.f5d.specs.Marking.{marked, mixed, place, places};
+ghost use Rattle.std.specs.List.{All};
 
 use vocabulary::SupplyCode;
 
@@ -35,6 +36,20 @@ fn place_of(number: u64, part: u64) -> usize
     (number / part % 65_536) as usize
 }
 
+// The places of a code's marks.
+fn places_of(code: &SupplyCode) -> [usize; 4]
+    ensures value { result ≡ places (mixed 0 code.now.bytes) }
+    ensures bound { All (λ p. p < 65536) result }
+{
+    let number = mix(code.as_bytes());
+    [
+        place_of(number, 1),
+        place_of(number, 65_536),
+        place_of(number, 4_294_967_296),
+        place_of(number, 281_474_976_710_656),
+    ]
+}
+
 impl Marks {
     pub(crate) fn new() -> Marks {
         Marks {
@@ -46,11 +61,8 @@ impl Marks {
     pub(crate) fn has(&self, code: &SupplyCode) -> bool
         ensures { result ≡ marked self.now.seen code.now.bytes }
     {
-        let number = mix(code.as_bytes());
-        self.seen[place_of(number, 1)]
-            && self.seen[place_of(number, 65_536)]
-            && self.seen[place_of(number, 4_294_967_296)]
-            && self.seen[place_of(number, 281_474_976_710_656)]
+        let [a, b, c, d] = places_of(code);
+        self.seen[a] && self.seen[b] && self.seen[c] && self.seen[d]
     }
 
     // Leaves the marks of a code. All others stay.
@@ -58,10 +70,10 @@ impl Marks {
         ensures noted { marked self.new.seen code.now.bytes ≡ true }
         ensures kept { (other : List ℕ) → marked self.old.seen other ≡ true → marked self.new.seen other ≡ true }
     {
-        let number = mix(code.as_bytes());
-        self.seen[place_of(number, 1)] = true;
-        self.seen[place_of(number, 65_536)] = true;
-        self.seen[place_of(number, 4_294_967_296)] = true;
-        self.seen[place_of(number, 281_474_976_710_656)] = true;
+        let [a, b, c, d] = places_of(code);
+        self.seen[a] = true;
+        self.seen[b] = true;
+        self.seen[c] = true;
+        self.seen[d] = true;
     }
 }

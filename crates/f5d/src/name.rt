@@ -1,21 +1,22 @@
 // The names of files.
-ghost use Rattle.std.specs.Prelude.{◌≡◌, ℕ, ◌+◌, ◌*◌, ◌<◌, ◌≤◌, min, true, false, not, ◌&&◌, ◌||◌, List, [], ◌∷◌, ◌++◌, length, IfOk, if◌then◌else◌, Some, IsAscii, MatchOption, MatchResult, ◌==◌, ◌≢◌, nat_eq, nat_le, nat_lt, slice_index};
+ghost use Rattle.std.specs.Prelude.{if◌then◌else◌, ◌≡◌, ◌+◌, ◌*◌, ◌<◌, ◌≤◌, min, true, false, not, ◌&&◌, ◌||◌, [], ◌∷◌, ◌++◌, length, Some, MatchOption, MatchResult, ◌==◌, ◌≢◌, nat_eq, nat_le, nat_lt, slice_index};
 ghost use Rattle.f5d.specs.Buffers.{over};
-ghost use Rattle.f5d.specs.FileNames.{name_of, name_told, three_digits};
+ghost use Rattle.f5d.specs.FileNames.{name_of, name_told};
 ghost use Rattle.f5d.specs.Names.{comes_next, date_digits, IsName, Name, name_text, named_behind, read_name, version_written, word_text};
-ghost use Rattle.f5d.specs.Reading.{digit, leading as leading_of, number as number_of, pair, pair_number};
-ghost use Rattle.f5d.specs.Records.{same};
+ghost use Rattle.f5d.specs.Reading.{leading as leading_of, number as number_of, pair, pair_number};
+ghost use Rattle.vocabulary.specs.Codes.{digit};
+ghost use Rattle.f5d.specs.declared.name.Word.{Word};
 ghost use Rattle.official_time.specs.Dates.{day_of, on};
 ghost use Rattle.vocabulary.specs.Refusals.{notice, plain};
 
-use crate::bytes::{
-    Digit, byte_at, has_at, is_pair, last_digit, leading, number, pair_number, put,
-};
+use crate::bytes::{byte_at, has_at, is_pair, last_digit, leading, number, pair_number};
 use crate::file_name::FileName;
+use crate::pen::Pen;
+use itoa::Buffer;
 use official_time::Date;
 use std::fmt;
 use std::str::from_utf8;
-use vocabulary::{ParticipantCode, Refusal};
+use vocabulary::{Alphabet, ParticipantCode, Refusal, ascii_text};
 
 // Whether a file's curves are sent for the first time or again.
 #[derive(Clone, Copy)]
@@ -27,17 +28,6 @@ pub enum Word {
 }
 
 impl Word {
-    // The word that a text is; any other text is refused with 12.
-    pub fn read(text: &str) -> Result<Word, Refusal>
-        ensures { MatchResult result (λ w. word_text w ≡ text.now) (λ e. (notice e ≡ plain 12) × ((w : Word) → word_text w ≢ text.now)) }
-    {
-        match text {
-            "F5D" => Ok(Word::F5d),
-            "RF5D" => Ok(Word::Rf5d),
-            _ => Err(Refusal::NotListed),
-        }
-    }
-
     // The word as names have it.
     pub fn text(self) -> &'static str
         ensures { result.now ≡ word_text self }
@@ -49,17 +39,26 @@ impl Word {
     }
 }
 
+// The word that a text is; any other text is refused with 12.
+impl TryFrom<&str> for Word {
+    type Error = Refusal;
+
+    ghost try_from_gives = { λ text r. MatchResult r (λ w. word_text w ≡ text.now) (λ e. (notice e ≡ plain 12) × ((w : Word) → word_text w ≢ text.now)) };
+
+    fn try_from(text: &str) -> Result<Word, Refusal> {
+        match text {
+            "F5D" => Ok(Word::F5d),
+            "RF5D" => Ok(Word::Rf5d),
+            _ => Err(Refusal::NotListed),
+        }
+    }
+}
+
 // The word that bytes are.
 fn word_of(bytes: &[u8]) -> Option<Word>
     ensures { MatchOption result ((w : Word) → word_text w ≢ bytes.now) (λ w. word_text w ≡ bytes.now) }
 {
-    let Ok(text) = from_utf8(bytes) else {
-        return None;
-    };
-    match Word::read(text) {
-        Ok(word) => Some(word),
-        Err(_) => None,
-    }
+    Word::try_from(from_utf8(bytes).ok()?).ok()
 }
 
 // Where the word of a name ends: it has three bytes, if `_` stands behind them, or else four.
@@ -111,7 +110,7 @@ fn is_numeral(text: &[u8]) -> bool
     let count = text.len();
     count >= 1
         && count <= 3
-        && leading(Digit, 3, text) == count
+        && leading(Alphabet::Digits, 3, text) == count
         && (count == 1 || byte_at(text, 0) != b'0')
 }
 
@@ -122,12 +121,7 @@ fn version_of(text: &[u8]) -> Option<u8>
     if !is_numeral(text) {
         return None;
     }
-    let number = number(text);
-    if number <= 255 {
-        Some(number as u8)
-    } else {
-        None
-    }
+    u8::try_from(number(text)).ok()
 }
 
 // The name that a word and what stands behind it are.
@@ -140,19 +134,10 @@ fn name_behind(word: Word, bytes: &[u8]) -> Option<FileName>
     if !is_dated(bytes) {
         return None;
     }
-    let Ok(distributor) = ParticipantCode::new(&bytes[1..5]) else {
-        return None;
-    };
-    let Ok(retailer) = ParticipantCode::new(&bytes[6..10]) else {
-        return None;
-    };
-    let Some(version) = version_of(&bytes[20..]) else {
-        return None;
-    };
-    match FileName::new(word, distributor, retailer, date_at(bytes), version) {
-        Ok(name) => Some(name),
-        Err(_) => None,
-    }
+    let distributor = ParticipantCode::try_from(&bytes[1..5]).ok()?;
+    let retailer = ParticipantCode::try_from(&bytes[6..10]).ok()?;
+    let version = version_of(&bytes[20..])?;
+    FileName::new(word, distributor, retailer, date_at(bytes), version).ok()
 }
 
 // The name that a text is.
@@ -160,21 +145,18 @@ fn name_in(text: &[u8]) -> Option<FileName>
     ensures { name_told result ≡ read_name text.now }
 {
     let end = word_end(text);
-    match word_of(&text[..end]) {
-        Some(word) => name_behind(word, &text[end..]),
-        None => None,
-    }
+    name_behind(word_of(&text[..end])?, &text[end..])
 }
 
-// Puts a code, and `_` before it, behind what is written over the front of the buffer.
-fn put_code(into: &mut [u8], at: usize, code: &ParticipantCode) -> usize
-    requires { at + 5 ≤ length into.old }
-    ensures value { result ≡ at + 5 }
-    ensures bytes { (done was : List ℕ) → length done ≡ at → into.old ≡ over done was → into.new ≡ over (done ++ 95 ∷ code.now.bytes) was }
-    ensures len { length into.new ≡ length into.old }
-{
-    let at = put(into, at, b"_");
-    put(into, at, code.as_bytes())
+// The name that a text is, the only one; any other text is refused with 13, line 0 and no field.
+impl TryFrom<&[u8]> for FileName {
+    type Error = Refusal;
+
+    ghost try_from_gives = { λ text r. MatchResult r (λ n. IsName (name_of n) text.now × ((m : Name) → IsName m text.now → m ≡ name_of n)) (λ e. (notice e ≡ plain 13) × ((n : Name) → IsName n text.now → ⊥)) };
+
+    fn try_from(text: &[u8]) -> Result<FileName, Refusal> {
+        name_in(text).ok_or(Refusal::MalformedName)
+    }
 }
 
 // `_aaaammdd.`: a date, and what parts it from the code before and the version behind.
@@ -195,46 +177,11 @@ fn date_part(date: Date) -> [u8; 10]
     ]
 }
 
-// A version in three digits.
-fn three_digits(version: u8) -> [u8; 3]
-    ensures { result ≡ three_digits version }
-{
-    let version = u32::from(version);
-    [
-        last_digit(version / 100),
-        last_digit(version / 10),
-        last_digit(version),
-    ]
-}
-
-// How many digits a version has.
-fn digit_count(version: u8) -> usize
-    ensures { result ≡ (if nat_lt version 10 then 1 else (if nat_lt version 100 then 2 else 3)) }
-{
-    if version < 10 {
-        1
-    } else if version < 100 {
-        2
-    } else {
-        3
-    }
-}
-
-// Whether two codes are one.
-fn same_code(code: &ParticipantCode, other: &ParticipantCode) -> bool
-    ensures { result ≡ same code.now.bytes other.now.bytes }
-{
-    code.as_bytes() == other.as_bytes()
-}
-
 // The number of the day of a name's date.
 fn day_number(name: &FileName) -> u32
     ensures { result ≡ day_of name.now.date }
 {
-    match name.date().day() {
-        Ok(day) => day.number(),
-        Err(_) => 0,
-    }
+    name.date().day().unwrap().number()
 }
 
 // Whether it is the next version on the same day, or the first on a later one.
@@ -246,23 +193,14 @@ fn is_next_version(day: u32, version: u8, last_day: u32, last_version: u8) -> bo
 }
 
 impl FileName {
-    // The name that a text is, the only one; any other text is refused with 13, line 0 and no field.
-    pub fn read(text: &[u8]) -> Result<FileName, Refusal>
-        ensures cases { MatchResult result (λ n. IsName (name_of n) text.now) (λ e. (notice e ≡ plain 13) × ((n : Name) → IsName n text.now → ⊥)) }
-        ensures only { IfOk result (λ n. (m : Name) → IsName m text.now → m ≡ name_of n) }
-    {
-        match name_in(text) {
-            Some(name) => Ok(name),
-            None => Err(Refusal::MalformedName),
-        }
-    }
-
     // How many bytes the text of the name has; they are 27 at most.
     pub fn text_length(&self) -> usize
         ensures value { result ≡ length (name_text (name_of self.now)) }
         ensures most { result ≤ 27 }
     {
-        self.word().text().len() + 20 + digit_count(self.version())
+        let mut buffer = Buffer::new();
+        let digits = buffer.format(self.version());
+        self.word().text().len() + 20 + digits.len()
     }
 
     // Writes the text of the name over the front of the buffer, and gives its length. Refused with 33, and the
@@ -273,13 +211,15 @@ impl FileName {
         if into.len() < self.text_length() {
             return Err(Refusal::BufferTooShort);
         }
-        let at = put(into, 0, self.word().text().as_bytes());
-        let at = put_code(into, at, self.distributor());
-        let at = put_code(into, at, self.retailer());
-        let at = put(into, at, &date_part(self.date()));
-        let version = self.version();
-        let digits = three_digits(version);
-        Ok(put(into, at, &digits[3 - digit_count(version)..]))
+        let mut pen = Pen::new(into);
+        pen.put(self.word().text().as_bytes());
+        pen.put_code(self.distributor());
+        pen.put_code(self.retailer());
+        pen.put(&date_part(self.date()));
+        let mut buffer = Buffer::new();
+        let digits = buffer.format(self.version());
+        pen.put(digits.as_bytes());
+        Ok(pen.written())
     }
 
     // Whether this name comes next after the last one: of the same distributor and retailer, the next version on the
@@ -287,8 +227,8 @@ impl FileName {
     pub fn comes_next(&self, last: &FileName) -> bool
         ensures { result ≡ comes_next (name_of last.now) (name_of self.now) }
     {
-        same_code(last.distributor(), self.distributor())
-            && same_code(last.retailer(), self.retailer())
+        last.distributor() == self.distributor()
+            && last.retailer() == self.retailer()
             && is_next_version(
                 day_number(self),
                 self.version(),
@@ -298,31 +238,13 @@ impl FileName {
     }
 }
 
-// The text that ASCII bytes are.
-fn ascii_text(bytes: &[u8]) -> &str
-    requires { IsAscii bytes.now }
-    ensures { result.now ≡ bytes.now }
-{
-    match from_utf8(bytes) {
-        Ok(text) => text,
-        Err(_) => "",
-    }
-}
-
-// A code as text.
-fn code_text(code: &ParticipantCode) -> &str
-    ensures { result.now ≡ code.now.bytes }
-{
-    ascii_text(code.as_bytes())
-}
-
 impl fmt::Display for FileName {
     ghost output = { λ n. Some (name_text (name_of n)) };
 
     fn fmt<W: fmt::Write>(&self, f: &mut fmt::Formatter<W>) -> fmt::Result {
         let word = self.word().text();
-        let distributor = code_text(self.distributor());
-        let retailer = code_text(self.retailer());
+        let distributor = self.distributor();
+        let retailer = self.retailer();
         let part = date_part(self.date());
         let date = ascii_text(&part);
         let version = self.version();

@@ -1,5 +1,6 @@
 // The records of a file, one after the other.
-ghost use Rattle.std.specs.Prelude.{◌≡◌, ℕ, MatchOption};
+ghost use Rattle.std.specs.Prelude.{◌≡◌, ℕ, length, MatchOption};
+ghost use Rattle.std.specs.Iterator.{at_most};
 ghost use Rattle.f5d.specs.Meanings.{record_of};
 ghost use Rattle.f5d.specs.Reading.{bad, good, read_line};
 
@@ -25,19 +26,20 @@ impl<'a> Records<'a> {
     {
         self.rest
     }
+}
 
-    // The record of the next line. None where no line is next: at the end of a file that was checked, or at a
-    // line that is malformed; nothing is passed over then.
-    pub fn next(&mut self) -> Option<HourRecord>
-        ensures { MatchOption result ((f : ℕ) × (read_line self.old.rest.now ≡ bad f) × (self.new.rest.now ≡ self.old.rest.now)) (λ q. read_line self.old.rest.now ≡ good (record_of q) self.new.rest.now) }
-    {
-        match HourRecord::read_line(self.rest) {
-            Ok(line) => {
-                let length = line.length;
-                self.rest = &self.rest[length..];
-                Some(line.record)
-            }
-            Err(_) => None,
-        }
+// The records of the lines, in turn. None where no line is next: at the end of a file that was checked, or at a line
+// that is malformed; nothing is passed over then.
+impl Iterator for Records<'_> {
+    type Item = HourRecord;
+
+    ghost next_gives = { λ s r t. MatchOption r ((f : ℕ) × (read_line s.rest.now ≡ bad f) × (t.rest.now ≡ s.rest.now)) (λ q. read_line s.rest.now ≡ good (record_of q) t.rest.now) };
+
+    ghost remaining = { λ s. at_most (length s.rest.now) };
+
+    fn next(&mut self) -> Option<HourRecord> {
+        let line = HourRecord::read_line(self.rest).ok()?;
+        self.rest = &self.rest[line.length..];
+        Some(line.value)
     }
 }

@@ -1,49 +1,19 @@
 // The line of a record, written.
-ghost use Rattle.std.specs.Prelude.{◌≡◌, ℕ, ◌+◌, ◌-◌, ◌%◌, ◌<◌, ◌≤◌, List, [], ◌∷◌, ◌++◌, length, drop, decimal, MatchResult};
+ghost use Rattle.std.specs.Prelude.{◌≡◌, ℕ, ◌+◌, ◌-◌, ◌<◌, ◌≤◌, List, [], ◌∷◌, ◌++◌, length, MatchResult};
 ghost use Rattle.f5d.specs.Buffers.{over};
-ghost use Rattle.f5d.specs.Meanings.{invoice_text, record_of};
-ghost use Rattle.f5d.specs.Methods.{firmness_number, method_number};
+ghost use Rattle.f5d.specs.Meanings.{record_of};
+ghost use Rattle.vocabulary.specs.Methods.{firmness_number, method_number};
 ghost use Rattle.f5d.specs.Records.{IsLine, line_length};
 ghost use Rattle.official_time.specs.Texts.{label_text};
 ghost use Rattle.vocabulary.specs.Refusals.{notice, plain};
 
 use crate::billed::BilledHour;
-use crate::bytes::{last_digit, put};
+use crate::bytes::last_digit;
 use crate::hours::HourRecord;
+use crate::pen::Pen;
+use itoa::Buffer;
 use official_time::Label;
 use vocabulary::Refusal;
-
-// A number of at most ten digits, right-justified.
-#[derive(Clone, Copy)]
-struct Digits {
-    bytes: [u8; 10],
-    from: usize,
-    ghost within: { from < 10 },
-}
-
-impl Digits {
-    fn of(number: u64) -> Digits
-        requires { number ≤ 9999999999 }
-        ensures { drop result.from result.bytes ≡ decimal number }
-    {
-        let mut bytes = [b'0'; 10];
-        let mut rest = number;
-        let mut from = 9;
-        while rest >= 10 {
-            bytes[from] = b'0' + (rest % 10) as u8;
-            rest /= 10;
-            from -= 1;
-        }
-        bytes[from] = b'0' + rest as u8;
-        Digits { bytes, from }
-    }
-
-    fn as_bytes(&self) -> &[u8]
-        ensures { result.now ≡ drop self.now.from self.now.bytes }
-    {
-        &self.bytes[self.from..]
-    }
-}
 
 // `;aaaa/mm/dd hh:mm;f;`: the label's fields, and what parts them from the field before.
 fn label_fields(label: Label) -> [u8; 20]
@@ -91,8 +61,9 @@ impl HourRecord {
     pub fn line_length(&self) -> usize
         ensures { result ≡ line_length (record_of self.now) }
     {
-        let digits = Digits::of(self.billed.energy().0);
-        54 + digits.as_bytes().len() + self.billed.invoice().as_bytes().len()
+        let mut buffer = Buffer::new();
+        let digits = buffer.format(self.billed.energy().0);
+        54 + digits.len() + self.billed.invoice().as_bytes().len()
     }
 
     // Writes the line of the record over the front of the buffer, and gives its length. Refused with 33, and the
@@ -103,12 +74,15 @@ impl HourRecord {
         if into.len() < self.line_length() {
             return Err(Refusal::BufferTooShort);
         }
-        let at = put(into, 0, self.at.supply.as_bytes());
-        let at = put(into, at, &label_fields(self.at.hour.label()));
-        let digits = Digits::of(self.billed.energy().0);
-        let at = put(into, at, digits.as_bytes());
-        let at = put(into, at, &method_fields(&self.billed));
-        let at = put(into, at, self.billed.invoice().as_bytes());
-        Ok(put(into, at, b";\n"))
+        let mut pen = Pen::new(into);
+        pen.put(self.at.supply.as_bytes());
+        pen.put(&label_fields(self.at.hour.label()));
+        let mut buffer = Buffer::new();
+        let digits = buffer.format(self.billed.energy().0);
+        pen.put(digits.as_bytes());
+        pen.put(&method_fields(&self.billed));
+        pen.put(self.billed.invoice().as_bytes());
+        pen.put(b";\n");
+        Ok(pen.written())
     }
 }

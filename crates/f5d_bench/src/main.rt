@@ -11,25 +11,22 @@ use std::env;
 use std::io::Read;
 use std::time::Instant;
 
-// The sum of the energies of so many records.
-fn sum_of(bytes: &[u8], count: usize) -> u64 {
+// The sum of the energies of the records.
+fn sum_of(bytes: &[u8]) -> u64 {
     let mut sum: u64 = 0;
-    let mut records = Records::new(bytes);
-    for _ in 0..count {
-        if let Some(record) = records.next() {
-            sum = sum.wrapping_add(record.billed.energy().0);
-        }
+    for record in Records::new(bytes) {
+        sum = sum.wrapping_add(record.billed.energy().0);
     }
     sum
 }
 
 fn main(rt: HostRuntime) -> anyhow::Result<()> {
-    let timed = env::args(&rt)?.skip(1).next().is_none();
+    let timed = env::args(&rt)?.nth(1).is_none();
     let mut input = Vec::new(rt.alloc());
     rt.stdin().read_to_end(&mut input)?;
     let start = Instant::now(&rt)?;
     let count = check_file(&input)?;
-    let sum = sum_of(&input, count);
+    let sum = sum_of(&input);
     let time = start.elapsed(&rt)?;
     if timed {
         let micros = time.as_micros();

@@ -6,7 +6,6 @@
 // again; or the refusal.
 #![tactic(auto)]
 
-use anyhow::anyhow;
 use f5d::{FileName, Records, check_file};
 use std::alloc::Global;
 
@@ -28,19 +27,13 @@ fn answer_file(rt: &HostRuntime, bytes: &[u8]) -> anyhow::Result<()> {
     };
     print!(rt; "{count}")?;
     let mut again = Vec::new(rt.alloc());
-    let mut records = Records::new(bytes);
-    for _ in 0..count {
-        let Some(record) = records.next() else {
-            return Err(anyhow!("a record is missing"));
-        };
+    for record in Records::new(bytes) {
         let hour = record.at.hour.number();
         let energy = record.billed.energy().0;
         print!(rt; " {hour} {energy}")?;
         let mut buffer = [0; 100];
         let length = record.write_line(&mut buffer)?;
-        for byte in buffer.iter().take(length) {
-            again.push(*byte)?;
-        }
+        again.extend_from_slice(&buffer[..length])?;
     }
     let same = again.as_slice() == bytes;
     println!(rt; " {same}")?;
@@ -53,17 +46,14 @@ fn answer_name(
     text: &str,
     last: Option<FileName>,
 ) -> anyhow::Result<Option<FileName>> {
-    let name = match FileName::read(text.as_bytes()) {
+    let name = match FileName::try_from(text.as_bytes()) {
         Ok(name) => name,
         Err(refusal) => {
             println!(rt; "{refusal}")?;
             return Ok(last);
         }
     };
-    let next = match last {
-        Some(last) => name.comes_next(&last),
-        None => false,
-    };
+    let next = last.is_some_and(|last| name.comes_next(&last));
     println!(rt; "{name} {next}")?;
     Ok(Some(name))
 }

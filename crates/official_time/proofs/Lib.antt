@@ -1,4 +1,5 @@
 pub mod Dates
+pub mod Digits
 pub mod Hours
 pub mod Tables
 pub mod Texts

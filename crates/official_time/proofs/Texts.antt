@@ -30,20 +30,3 @@ date_back t c y m d len s1 s2 l pc py pm pd =
 -- every date from 2000 to 2099 is short enough to be written
 pub real_short : (d : Date) → is_date d ≡ true → Short d
 real_short d h = let p = parts d h in record { year = omega arith; month = omega arith; day = omega arith }
-
--- two dates that are written alike are the same
-pub one_date : (d e : Date) → Short d → Short e → date_text d ≡ date_text e → d ≡ e
-one_date d e sd se p =
-    let at : (k : ℕ) → get_or (date_text d) k 0 ≡ get_or (date_text e) k 0 = λ k. ap (λ l. get_or l k 0) p in
-    let a = at 0 in
-    let b = at 1 in
-    let c = at 2 in
-    let f = at 3 in
-    let g = at 5 in
-    let h = at 6 in
-    let j = at 8 in
-    let k = at 9 in
-    let years : d.year ≡ e.year = omega arith in
-    let months : d.month ≡ e.month = omega arith in
-    let days : d.day ≡ e.day = omega arith in
-    λ i. record { year = years i; month = months i; day = days i }

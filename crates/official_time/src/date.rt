@@ -6,7 +6,7 @@ ghost use Rattle.vocabulary.specs.Refusals.{notice, plain};
 use vocabulary::Refusal;
 
 // A date as it is written; whether there is such a date, `day` says.
-#[derive(Clone, Copy, Debug)]
+#[derive(Clone, Copy, PartialEq, Eq, Debug)]
 pub struct Date {
     pub year: u32,
     pub month: u32,
@@ -14,13 +14,13 @@ pub struct Date {
 }
 
 // A day of 2000 to 2099 by its number: 0 is 2000/01/01.
-#[derive(Clone, Copy, PartialEq, Eq, Debug)]
+#[derive(Clone, Copy, PartialEq, Eq, PartialOrd, Ord, Debug)]
 pub struct Day {
     number: u32,
     ghost counted: { number < 36525 },
 }
 
-#[derive(Clone, Copy, Debug)]
+#[derive(Clone, Copy, PartialEq, Eq, Debug)]
 pub enum Weekday {
     Monday,
     Tuesday,
@@ -73,31 +73,31 @@ fn days_before(year: u32, month: u32) -> u32
     }
 }
 
-// The month in which a day of a year lies, days counted from 0, and the days before the month.
-fn month_at(year: u32, day: u32) -> (u32, u32)
+// The month in which a day of a year lies, days counted from 0.
+fn month_at(year: u32, day: u32) -> u32
     requires { day < year_days year }
-    ensures before { result.1 ≡ days_of_months year result.0 }
-    ensures from { result.1 ≤ day }
-    ensures to { day < result.1 + month_days year result.0 }
+    ensures month { (1 ≤ result) × (result ≤ 12) }
+    ensures from { days_of_months year result ≤ day }
+    ensures to { day < days_of_months year result + month_days year result }
 {
     let leap_day = leap_day(year);
     if day < 31 {
-        return (1, 0);
+        return 1;
     }
     if day < 59 + leap_day {
-        return (2, 31);
+        return 2;
     }
     match day - leap_day {
-        59..=89 => (3, 59 + leap_day),
-        90..=119 => (4, 90 + leap_day),
-        120..=150 => (5, 120 + leap_day),
-        151..=180 => (6, 151 + leap_day),
-        181..=211 => (7, 181 + leap_day),
-        212..=242 => (8, 212 + leap_day),
-        243..=272 => (9, 243 + leap_day),
-        273..=303 => (10, 273 + leap_day),
-        304..=333 => (11, 304 + leap_day),
-        _ => (12, 334 + leap_day),
+        59..=89 => 3,
+        90..=119 => 4,
+        120..=150 => 5,
+        151..=180 => 6,
+        181..=211 => 7,
+        212..=242 => 8,
+        243..=272 => 9,
+        273..=303 => 10,
+        304..=333 => 11,
+        _ => 12,
     }
 }
 
@@ -107,10 +107,8 @@ impl Date {
         ensures value { result ≡ is_date self }
         ensures parts { result ≡ true → (2000 ≤ self.year) × (self.year ≤ 2099) × (1 ≤ self.month) × (self.month ≤ 12) × (1 ≤ self.day) × (self.day ≤ 31) }
     {
-        self.year >= 2000
-            && self.year <= 2099
-            && self.day >= 1
-            && self.day <= month_days(self.year, self.month)
+        (2000..=2099).contains(&self.year)
+            && (1..=month_days(self.year, self.month)).contains(&self.day)
     }
 
     // The day of this date; refused with 16 where there is no such date from 2000 to 2099.
@@ -173,11 +171,11 @@ impl Day {
         let years = 4 * self.number / 1461;
         let year = 2000 + years;
         let in_year = self.number - days_before_year(years);
-        let (month, before) = month_at(year, in_year);
+        let month = month_at(year, in_year);
         Date {
             year,
             month,
-            day: in_year - before + 1,
+            day: in_year - days_before(year, month) + 1,
         }
     }
 

@@ -9,7 +9,7 @@ use crate::label::Label;
 use crate::season::Season;
 
 // An hour by its number: hour h ends h hours after 2000/01/01 00:00 winter time.
-#[derive(Clone, Copy, Debug)]
+#[derive(Clone, Copy, PartialEq, Eq, PartialOrd, Ord, Debug)]
 pub struct Hour {
     number: u32,
     ghost first: { 1 ≤ number },
@@ -22,7 +22,7 @@ impl Hour {
         ensures test { is_some result ≡ is_hour number }
         ensures value { IfSome result (λ h. h.number ≡ number) }
     {
-        if number >= 1 && number <= 876_599 {
+        if (1..=876_599).contains(&number) {
             Some(Hour { number })
         } else {
             None

@@ -9,7 +9,7 @@ use vocabulary::Refusal;
 
 // The date and clock of an hour's end with its summer flag, as they are written; whether an hour has
 // this label, `hour` says.
-#[derive(Clone, Copy, Debug)]
+#[derive(Clone, Copy, PartialEq, Eq, Debug)]
 pub struct Label {
     pub date: Date,
     pub hour: u32,
@@ -23,9 +23,7 @@ impl Label {
     fn meant(self) -> Option<Hour>
         ensures { MatchOption result ((h : ℕ) → IsLabel h self → ⊥) (λ k. ((h : ℕ) → IsLabel h self → h ≡ k.number) × (flag_of k.number ≡ self.flag → IsLabel k.number self)) }
     {
-        let Ok(day) = self.date.day() else {
-            return None;
-        };
+        let day = self.date.day().ok()?;
         if self.hour > 23 || self.minute != 0 || self.second != 0 {
             return None;
         }

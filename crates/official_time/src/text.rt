@@ -1,6 +1,7 @@
 // Dates and labels as text.
 ghost use Rattle.std.specs.Prelude.{◌≡◌, ℕ, ◌<◌, [], ◌∷◌, Some, MatchOption, MatchResult, ◌≢◌};
 ghost use Rattle.official_time.specs.Texts.{date_text, label_text, Short, two_digits};
+ghost use Rattle.official_time.specs.declared.date.Date.{Date};
 ghost use Rattle.vocabulary.specs.Refusals.{notice, plain};
 
 use crate::date::Date;
@@ -19,29 +20,15 @@ fn two_digits(tens: u8, ones: u8) -> Option<u32>
     }
 }
 
-// A number in two digits.
-#[derive(Clone, Copy)]
-struct TwoDigits(u32);
-
-impl fmt::Display for TwoDigits {
-    ghost output = { λ n. Some (two_digits n.0) };
-
-    fn fmt<W: fmt::Write>(&self, f: &mut fmt::Formatter<W>) -> fmt::Result {
-        let tens = self.0 / 10 % 10;
-        let ones = self.0 % 10;
-        write!(f, "{tens}{ones}")
-    }
-}
-
 impl fmt::Display for Date {
     ghost output = { λ d. Some (date_text d) };
 
     fn fmt<W: fmt::Write>(&self, f: &mut fmt::Formatter<W>) -> fmt::Result {
-        let century = TwoDigits(self.year / 100);
-        let year = TwoDigits(self.year);
-        let month = TwoDigits(self.month);
-        let day = TwoDigits(self.day);
-        write!(f, "{century}{year}/{month}/{day}")
+        let century = self.year / 100 % 100;
+        let year = self.year % 100;
+        let month = self.month % 100;
+        let day = self.day % 100;
+        write!(f, "{century:02}{year:02}/{month:02}/{day:02}")
     }
 }
 
@@ -50,22 +37,19 @@ impl fmt::Display for Label {
 
     fn fmt<W: fmt::Write>(&self, f: &mut fmt::Formatter<W>) -> fmt::Result {
         let date = self.date;
-        let hour = TwoDigits(self.hour);
-        let minute = TwoDigits(self.minute);
-        write!(f, "{date} {hour}:{minute}")
+        write!(f, "{date} {:02}:{:02}", self.hour % 100, self.minute % 100)
     }
 }
 
-impl Date {
-    // The date that a text writes as aaaa/mm/dd, the only one; any other text is refused with 16. Whether there is
-    // such a date, `day` says.
-    pub fn read(text: &[u8]) -> Result<Date, Refusal>
-        ensures { MatchResult result (λ d. Short d × (date_text d ≡ text.now) × ((other : Date) → Short other → date_text other ≡ text.now → other ≡ d)) (λ e. (notice e ≡ plain 16) × ((d : Date) → Short d → date_text d ≢ text.now)) }
-    {
-        match read_parts(text) {
-            Some(date) => Ok(date),
-            None => Err(Refusal::NoSuchDate),
-        }
+// The date that a text writes as aaaa/mm/dd, the only one; any other text is refused with 16. Whether there is
+// such a date, `day` says.
+impl TryFrom<&[u8]> for Date {
+    type Error = Refusal;
+
+    ghost try_from_gives = { λ text r. MatchResult r (λ d. Short d × (date_text d ≡ text.now) × ((other : Date) → Short other → date_text other ≡ text.now → other ≡ d)) (λ e. (notice e ≡ plain 16) × ((d : Date) → Short d → date_text d ≢ text.now)) };
+
+    fn try_from(text: &[u8]) -> Result<Date, Refusal> {
+        read_parts(text).ok_or(Refusal::NoSuchDate)
     }
 }
 

@@ -1,6 +1,7 @@
 -- The rules of the profiles: the weight of every hour.
-use Rattle.std.specs.Prelude.{◌≡◌, ℕ, ◌-◌, min, Bool, true, false, cond, ◌&&◌, ◌||◌, List, [], ◌∷◌, length, Some, None, Option, ◌==◌, nat_le, nat_lt, slice_index}
+use Rattle.std.specs.Prelude.{◌≡◌, ℕ, ◌-◌, min, Bool, true, cond, ◌&&◌, List, [], ◌∷◌, length, Some, None, Option, ◌==◌, nat_le, nat_lt, slice_index}
 use Rattle.std.specs.Option.{option_map}
+use Rattle.std.specs.List.{list_all, list_any}
 use Rattle.vocabulary.specs.Ranges.{between}
 use Rattle.official_time.specs.declared.hour.Hour.{Hour}
 use Rattle.sorted_table.specs.declared.place.Place.{Place}
@@ -24,8 +25,7 @@ published_weight first table h = cond (in_table first table h) (if_light (slice_
 
 -- all numbers of a table are weights
 abbrev pub all_light : List ℕ → Bool
-all_light [] = true
-all_light (w ∷ ws) = nat_le w 1000000 && all_light ws
+all_light = list_all (λ w. nat_le w 1000000)
 
 -- where all are, each hour of the table has the number that stands there
 abbrev pub TableLaw : Type 0
@@ -46,8 +46,7 @@ after n (p ∷ ps) = nat_lt n p.key.number && after p.key.number ps
 
 -- interrupted: inside a span 0 where the profile below has a weight; elsewhere what is below
 abbrev pub inside : List Span → ℕ → Bool
-inside [] h = false
-inside (s ∷ ss) h = between s.first s.last h || inside ss h
+inside spans h = list_any (λ s. between s.first s.last h) spans
 
 abbrev pub interrupted_weight : List Span → (ℕ → Option ℕ) → ℕ → Option ℕ
 interrupted_weight spans below h = cond (inside spans h) (option_map (λ w. 0) (below h)) (below h)

@@ -35,12 +35,7 @@ impl<'a> History<'a> {
     fn energy(&self, hour: Hour) -> Option<Wh>
         ensures { option_map (λ wh. wh.0) result ≡ energy_at self.now.places.now hour.number }
     {
-        let mut energy = Wh(0);
-        if find_in(self.places, &hour, &mut energy) {
-            Some(energy)
-        } else {
-            None
-        }
+        find_in(self.places, &hour).copied()
     }
 }
 

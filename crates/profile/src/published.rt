@@ -41,12 +41,7 @@ impl<'a> Published<'a> {
 fn all_light(weights: &[u32]) -> bool
     ensures { result ≡ all_light weights.now }
 {
-    for weight in weights {
-        if *weight > MOST {
-            return false;
-        }
-    }
-    true
+    weights.iter().all(|weight| *weight <= MOST)
 }
 
 impl Profile for Published<'_> {
@@ -55,6 +50,6 @@ impl Profile for Published<'_> {
     fn weight(&self, hour: Hour) -> Option<u32> {
         let place = hour.number().checked_sub(self.first.number())?;
         let weight = *self.weights.get(place as usize)?;
-        if weight <= MOST { Some(weight) } else { None }
+        (weight <= MOST).then_some(weight)
     }
 }

@@ -29,6 +29,6 @@ impl Span {
     pub fn holds(&self, hour: Hour) -> bool
         ensures { result ≡ between self.now.first self.now.last hour.number }
     {
-        self.first <= hour.number() && hour.number() <= self.last
+        (self.first..=self.last).contains(&hour.number())
     }
 }

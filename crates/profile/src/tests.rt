@@ -5,10 +5,7 @@ use std::test::Fail;
 use vocabulary::Wh;
 
 fn hour(number: u32) -> Result<Hour, Fail> {
-    match Hour::new(number) {
-        Some(hour) => Ok(hour),
-        None => Err(Fail::new("no such hour")),
-    }
+    Hour::new(number).ok_or_else(|| Fail::new("no such hour"))
 }
 
 #[test]

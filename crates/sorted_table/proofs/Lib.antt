@@ -1,4 +1,5 @@
 pub mod Entries
+pub mod Compared
 pub mod Merging
 pub mod Putting
 pub mod Steps

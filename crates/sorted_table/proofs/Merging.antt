@@ -1,12 +1,11 @@
 -- Merging a run into entries puts the run's entries one by one.
-use Rattle.std.proofs.Common.{◌≡◌, suc, ◌⊎◌, List, [], ◌∷◌, ◌++◌, sym, refl, ap, ◌∙◌, subst, inl, inr, ⊎_elim, arith}
-use Rattle.std.specs.List.{ContainsAt as Has, AllByRecursion}
-use Rattle.std.proofs.ByRecursion.{all-has}
+use Rattle.std.proofs.Common.{◌≡◌, ℕ, zero, suc, ◌⊎◌, List, [], ◌∷◌, ◌++◌, take, drop, sym, refl, ap, ◌∙◌, subst, inl, inr, ⊎_elim, arith}
+use Rattle.std.specs.List.{AllByRecursion, AllWithin, Contains}
 use Rattle.sorted_table.specs.Orders.{TotalOrder}
 use Rattle.sorted_table.specs.Entries.{entry, Rising, Put, Puts}
 use Rattle.sorted_table.specs.Merged.{among, merged}
 use Rattle.sorted_table.specs.declared.place.Place.{Place}
-use Rattle.sorted_table.proofs.Entries.{has_here, has_there, has_cases, has_none, all_behind, asymmetric, by_order, not_itself}
+use Rattle.sorted_table.proofs.Entries.{has_here, has_there, has_cases, has_none, all_has, all_behind, asymmetric, by_order, not_itself}
 
 module _ {K V : Type 0} {before : K → K → Type 0} (order : TotalOrder before) where
   -- ## one step
@@ -57,9 +56,10 @@ module _ {K V : Type 0} {before : K → K → Type 0} (order : TotalOrder before
   -- ## the whole
 
   -- what is before the whole run stays in front
-  pub merged_front : (front xs : List (Place K V)) (y : Place K V) (ys : List (Place K V)) → AllByRecursion (λ x. before x.key y.key) front → merged order (front ++ xs) (y ∷ ys) ≡ front ++ merged order xs (y ∷ ys)
-  merged_front [] xs y ys a = refl
-  merged_front (x ∷ front) xs y ys a = merged_old x (front ++ xs) y ys a.0 ∙ ap (λ zs. x ∷ zs) (merged_front front xs y ys a.1)
+  pub merged_front : (n : ℕ) (xs : List (Place K V)) (y : Place K V) (ys : List (Place K V)) → AllWithin (λ x. before x.key y.key) xs 0 n → merged order xs (y ∷ ys) ≡ take n xs ++ merged order (drop n xs) (y ∷ ys)
+  merged_front zero xs y ys a = refl
+  merged_front (suc n) [] y ys a = refl
+  merged_front (suc n) (x ∷ xs) y ys a = merged_old x xs y ys (a 0 x (omega arith) (omega arith)) ∙ ap (λ zs. x ∷ zs) (merged_front n xs y ys (λ k d l m. a (suc k) d (omega arith) (omega arith)))
 
   merged_first : (x : Place K V) (xs ys : List (Place K V)) → AllByRecursion (λ y. before x.key y.key) ys → merged order (x ∷ xs) ys ≡ x ∷ merged order xs ys
   merged_first x xs [] a = merged_out (x ∷ xs) ∙ ap (λ zs. x ∷ zs) (sym (merged_out xs))
@@ -131,8 +131,8 @@ module _ {K V : Type 0} {before : K → K → Type 0} (order : TotalOrder before
         one_more = λ _. omega arith;
       }
         where
-          not_there : (w : V) → Has (x ∷ xs) (entry k w) → ⊥
-          not_there w h = order.irreflexive k (all-has (λ y. before k y.key) (x ∷ xs) (entry k w) (b, all_behind order k x.key xs b up.0) h)
+          not_there : (w : V) → Contains (x ∷ xs) (entry k w) → ⊥
+          not_there w h = order.irreflexive k (all_has (λ y. before k y.key) (x ∷ xs) (entry k w) (b, all_behind order k x.key xs b up.0) h)
 
   put_one : (xs : List (Place K V)) (y : Place K V) → Rising before xs → Put before xs y.key y.value (merged order xs (y ∷ []))
   put_one [] y up = subst (Put before [] y.key y.value) (sym (merged_none (y ∷ []))) (at_end y.key y.value)

@@ -1,6 +1,6 @@
 -- What the puts of a run settle: the order, and the number of entries.
 use Rattle.std.proofs.Common.{◌≡◌, ◌+◌, ◌⊎◌, List, [], ◌∷◌, length, sym, refl, ap, ◌∙◌, subst, inl, inr, ⊎_elim}
-use Rattle.std.specs.List.{ContainsAt as Has}
+use Rattle.std.specs.List.{Contains}
 use Rattle.sorted_table.specs.Orders.{TotalOrder}
 use Rattle.sorted_table.specs.Entries.{entry, Lacks, Rising, Put, Puts}
 use Rattle.sorted_table.specs.declared.place.Place.{Place}
@@ -8,7 +8,7 @@ use Rattle.sorted_table.proofs.Entries.{has_here, has_there, has_cases, has_none
 
 -- some value is under the key
 abbrev Under : {K V : Type 0} → List (Place K V) → K → Type 0
-Under {K} {V} xs k = (v : V) × Has xs (entry k v)
+Under {K} {V} xs k = (v : V) × Contains xs (entry k v)
 
 record Alike {K V : Type 0} (xs ys : List (Place K V)) : Type 0 where
   to : (k : K) → Under xs k → Under ys k

@@ -1,7 +1,5 @@
 -- One step of going through entries and a run together.
-use Rattle.std.proofs.Common.{◌≡◌, ℕ, zero, suc, ◌+◌, ◌<◌, ◌≤◌, List, [], ◌∷◌, length, get_or, drop, Ordering, Less, Equal, Greater, sym, ap, ◌∙◌, add-one, arith}
-use Rattle.std.specs.Ordering.{MatchOrdering}
-use Rattle.std.specs.List.{HoldsAt}
+use Rattle.std.proofs.Common.{◌≡◌, ℕ, zero, suc, ◌+◌, ◌<◌, ◌≤◌, List, [], ◌∷◌, length, get_or, drop, Less, Equal, Greater, sym, ap, ◌∙◌, add-one, arith}
 use Rattle.sorted_table.specs.Orders.{TotalOrder}
 use Rattle.sorted_table.specs.Merged.{merged}
 use Rattle.sorted_table.specs.Searched.{Stands}
@@ -9,25 +7,18 @@ use Rattle.sorted_table.specs.declared.place.Place.{Place}
 use Rattle.sorted_table.proofs.Entries.{by_order}
 use Rattle.sorted_table.proofs.Merging.{merged_old, merged_both, merged_new, merged_none, merged_out}
 
-module _ {K V : Type 0} (before : K → K → Type 0) where
-  pub stands : (xs : List (Place K V)) (i : ℕ) (k : K) (r : Ordering) → (i < length xs → HoldsAt (λ x. MatchOrdering r (before x.key k) (x.key ≡ k) (before k x.key)) xs i) → (length xs ≤ i → r ≡ Greater) → Stands before (drop i xs) k r
-  stands [] zero k r there past = past (omega arith)
-  stands [] (suc i) k r there past = past (omega arith)
-  stands (x ∷ xs) zero k r there past = there (omega arith) x
-  stands (x ∷ xs) (suc i) k r there past = stands xs i k r (λ l. there (omega arith)) (λ l. past (omega arith))
-
 module _ {K V : Type 0} {before : K → K → Type 0} (order : TotalOrder before) where
   -- the entry at the place is next
   pub at_less : (xs : List (Place K V)) (i : ℕ) (d y : Place K V) (ys : List (Place K V)) → Stands before (drop i xs) y.key Less → (i < length xs) × (merged order (drop i xs) (y ∷ ys) ≡ get_or xs i d ∷ merged order (drop (i + 1) xs) (y ∷ ys))
-  at_less [] zero d y ys s = let z : ◌≡◌ {A = ℕ} 0 1 = cc in absurd (omega arith)
-  at_less [] (suc i) d y ys s = let z : ◌≡◌ {A = ℕ} 0 1 = cc in absurd (omega arith)
+  at_less [] zero d y ys s = absurd cc
+  at_less [] (suc i) d y ys s = absurd cc
   at_less (x ∷ xs) zero d y ys s = (omega arith, merged_old order x xs y ys s)
   at_less (x ∷ xs) (suc i) d y ys s = let r = at_less xs i d y ys s in (omega arith, rw (add-one) (rw add-one at r.1))
 
   -- the run's entry takes the place of the one there
   pub at_equal : (xs : List (Place K V)) (i : ℕ) (y : Place K V) (ys : List (Place K V)) → Stands before (drop i xs) y.key Equal → (i < length xs) × (merged order (drop i xs) (y ∷ ys) ≡ y ∷ merged order (drop (i + 1) xs) ys)
-  at_equal [] zero y ys s = let z : ◌≡◌ {A = ℕ} 0 1 = cc in absurd (omega arith)
-  at_equal [] (suc i) y ys s = let z : ◌≡◌ {A = ℕ} 0 1 = cc in absurd (omega arith)
+  at_equal [] zero y ys s = absurd cc
+  at_equal [] (suc i) y ys s = absurd cc
   at_equal (x ∷ xs) zero y ys s = (omega arith, merged_both order x xs y ys s)
   at_equal (x ∷ xs) (suc i) y ys s = let r = at_equal xs i y ys s in (omega arith, rw (add-one) (rw add-one at r.1))
 

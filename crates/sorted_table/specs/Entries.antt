@@ -1,6 +1,6 @@
 -- What a table means: its entries in key order, no key twice; and what finding and putting do to it.
 use Rattle.std.specs.Prelude.{◌≡◌, ℕ, ◌+◌, ◌<◌, ◌≤◌, List, [], ◌∷◌, length, Ok, Err, Result, ◌≢◌}
-use Rattle.std.specs.List.{ContainsAt as Has, AllByRecursion}
+use Rattle.std.specs.List.{Contains, AllByRecursion}
 use Rattle.vocabulary.specs.declared.refusal.Refusal.{Refusal}
 use Rattle.vocabulary.specs.Refusals.{notice, plain}
 use Rattle.sorted_table.specs.declared.merge.RunRefused.{RunRefused}
@@ -12,7 +12,7 @@ entry k v = record { key = k; value = v }
 
 -- no value is under the key
 abbrev pub Lacks : {K V : Type 0} → List (Place K V) → K → Type 0
-Lacks {K} {V} xs k = (v : V) → Has xs (entry k v) → ⊥
+Lacks {K} {V} xs k = (v : V) → Contains xs (entry k v) → ⊥
 
 module _ {K V : Type 0} (before : K → K → Type 0) where
   -- each key is before all the keys that follow it, so no key stands twice
@@ -22,11 +22,11 @@ module _ {K V : Type 0} (before : K → K → Type 0) where
 
   -- the entries ys are the entries xs with v put under k
   pub record Put (xs : List (Place K V)) (k : K) (v : V) (ys : List (Place K V)) : Type 0 where
-    pub found : Has ys (entry k v)
-    pub kept : (q : K) (w : V) → (q ≢ k) → Has xs (entry q w) → Has ys (entry q w)
-    pub no_other : (q : K) (w : V) → (q ≢ k) → Has ys (entry q w) → Has xs (entry q w)
+    pub found : Contains ys (entry k v)
+    pub kept : (q : K) (w : V) → (q ≢ k) → Contains xs (entry q w) → Contains ys (entry q w)
+    pub no_other : (q : K) (w : V) → (q ≢ k) → Contains ys (entry q w) → Contains xs (entry q w)
     pub rising : Rising ys
-    pub same_count : (w : V) → Has xs (entry k w) → length ys ≡ length xs
+    pub same_count : (w : V) → Contains xs (entry k w) → length ys ≡ length xs
     pub one_more : Lacks xs k → length ys ≡ length xs + 1
 
   -- the entries zs are the entries xs with those of a run put one by one

@@ -7,11 +7,6 @@ use Rattle.sorted_table.specs.Entries.{Rising}
 use Rattle.sorted_table.specs.Orders.{TotalOrder}
 use Rattle.sorted_table.specs.declared.place.Place.{Place}
 
--- how many places are used after a run was put or refused
-abbrev pub used_after : ℕ → Result ℕ RunRefused → ℕ
-used_after used (Ok n) = n
-used_after used (Err e) = used
-
 module _ {K V : Type 0} {before : K → K → Type 0} (order : TotalOrder before) where
   -- what x ∷ xs and a run give, where `rest` is what xs and a run give
   unfoldable pub among : Place K V → List (Place K V) → (List (Place K V) → List (Place K V)) → List (Place K V) → List (Place K V)
@@ -35,7 +30,5 @@ module _ {K V : Type 0} {before : K → K → Type 0} (order : TotalOrder before
 
   -- the same with the place from which the run goes: what is before it stays as it is
   abbrev pub Planned : List (Place K V) → ℕ → List (Place K V) → Result (ℕ × ℕ) RunRefused → Type 0
-  Planned xs free run (Ok (from, n)) =
-      (from ≤ length xs) × Counted (drop from xs) free run (Ok n) × (Rising before xs → merged xs run ≡ take from xs ++ merged (drop from xs) run)
-  Planned xs free run (Err NotAscending) = Rising before run → ⊥
-  Planned xs free run (Err TooFewPlaces) = Rising before run × (Rising before xs → length xs + free < length (merged xs run))
+  Planned xs free run (Ok (from, n)) = (from ≤ length xs) × Counted (drop from xs) free run (Ok n) × (merged xs run ≡ take from xs ++ merged (drop from xs) run)
+  Planned xs free run (Err e) = Counted xs free run (Err e)

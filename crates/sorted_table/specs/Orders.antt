@@ -2,6 +2,10 @@
 use Rattle.std.specs.Prelude.{◌≡◌, ℕ, ◌<◌, ◌⊎◌}
 use Rattle.std.proofs.Common.{inl, inr, ⊎_elim, arith}
 use Rattle.std.proofs.lemmas.Bool.{cases_order}
+use Rattle.std.specs.Cmp.{ranks}
+use Rattle.std.specs.declared.cmp.Ordering.{Ordering}
+use Rattle.std.specs.declared.cmp.Ordering.TheVariants.{Less, Equal, Greater}
+use Rattle.std.specs.Ordering.{MatchOrdering, nat_cmp}
 
 -- Nothing is before itself, what is before another is before all behind that, and of two different ones one is before the other.
 pub record TotalOrder {K : Type 0} (before : K → K → Type 0) : Type 0 where
@@ -16,3 +20,12 @@ by_number number own = record {
   transitive = λ a b c l m. omega arith;
   total = λ a b. ⊎_elim (λ e. inr (inl (own a b e))) (⊎_elim inl (λ l. inr (inr l))) (cases_order (number a) (number b));
 }
+
+-- numbers compared agree with that order
+pub by_number_agrees : {K : Type 0} (number : K → ℕ) → ((a b : K) → number a ≡ number b → a ≡ b) → (a b : K) → MatchOrdering (nat_cmp (number a) (number b)) (number a < number b) (a ≡ b) (number b < number a)
+by_number_agrees number own a b = by (nat_cmp (number a) (number b)) (ranks (number a) (number b))
+  where
+    by : (r : Ordering) → MatchOrdering r (number a < number b) (number a ≡ number b) (number b < number a) → MatchOrdering r (number a < number b) (a ≡ b) (number b < number a)
+    by Less h = h
+    by Equal h = own a b h
+    by Greater h = h

@@ -1,9 +1,8 @@
 -- Where a key stands among entries: the words of the private functions that search.
-use Rattle.std.specs.Prelude.{◌≡◌, ℕ, List, [], ◌∷◌, take, drop}
+use Rattle.std.specs.Prelude.{◌≡◌, List, [], ◌∷◌}
 use Rattle.std.specs.declared.cmp.Ordering.TheVariants.{Greater}
 use Rattle.std.specs.declared.cmp.Ordering.{Ordering}
 use Rattle.std.specs.Ordering.{MatchOrdering}
-use Rattle.std.specs.List.{AllByRecursion}
 use Rattle.sorted_table.specs.declared.place.Place.{Place}
 
 module _ {K V : Type 0} (before : K → K → Type 0) where
@@ -11,8 +10,3 @@ module _ {K V : Type 0} (before : K → K → Type 0) where
   abbrev pub Stands : List (Place K V) → K → Ordering → Type 0
   Stands [] k r = r ≡ Greater
   Stands (x ∷ xs) k r = MatchOrdering r (before x.key k) (x.key ≡ k) (before k x.key)
-
-  -- the first `low` keys are before k, and those from `high` on are not
-  pub record Parted (xs : List (Place K V)) (k : K) (low high : ℕ) : Type 0 where
-    pub below : AllByRecursion (λ x. before x.key k) (take low xs)
-    pub above : AllByRecursion (λ x. before x.key k → ⊥) (drop high xs)

@@ -1,5 +1,6 @@
 // Entries that come one after the other.
-ghost use Rattle.std.specs.Prelude.{◌≡◌, false, List, [], ◌∷◌, if◌then◌else◌, MatchOption};
+ghost use Rattle.std.specs.Prelude.{◌≡◌, List, [], ◌∷◌, MatchOption};
+ghost use Rattle.std.specs.Option.{option_to_list};
 ghost use Rattle.sorted_table.specs.declared.place.Place.{Place};
 
 use crate::place::Place;
@@ -10,6 +11,15 @@ pub trait Run<K, V>: Copy {
 
     fn next(&mut self) -> Option<Place<K, V>>
         ensures { MatchOption result ((items self.old ≡ []) × (items self.new ≡ [])) (λ entry. items self.old ≡ entry ∷ items self.new) };
+}
+
+// One entry, or none.
+impl<K: Copy, V: Copy> Run<K, V> for Option<Place<K, V>> {
+    ghost items = { option_to_list };
+
+    fn next(&mut self) -> Option<Place<K, V>> {
+        self.take()
+    }
 }
 
 // The entries of a slice.
@@ -30,42 +40,8 @@ impl<K: Copy, V: Copy> Run<K, V> for Slice<'_, K, V> {
     ghost items = { λ s. s.entries.now };
 
     fn next(&mut self) -> Option<Place<K, V>> {
-        if self.entries.len() == 0 {
-            return None;
-        }
-        let entry = self.entries[0];
-        self.entries = &self.entries[1..];
-        Some(entry)
-    }
-}
-
-// One entry.
-#[derive(Clone, Copy)]
-pub(crate) struct One<K, V> {
-    place: Place<K, V>,
-    given: bool,
-}
-
-impl<K: Copy, V: Copy> One<K, V> {
-    pub(crate) fn new(place: Place<K, V>) -> One<K, V>
-        ensures place { result.place ≡ place }
-        ensures given { result.given ≡ false }
-    {
-        One {
-            place,
-            given: false,
-        }
-    }
-}
-
-impl<K: Copy, V: Copy> Run<K, V> for One<K, V> {
-    ghost items = { λ s. (if s.given then [] else s.place ∷ []) };
-
-    fn next(&mut self) -> Option<Place<K, V>> {
-        if self.given {
-            return None;
-        }
-        self.given = true;
-        Some(self.place)
+        let (first, rest) = self.entries.split_first()?;
+        self.entries = rest;
+        Some(*first)
     }
 }

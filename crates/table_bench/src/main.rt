@@ -9,7 +9,7 @@
 use anyhow::anyhow;
 use f5d::SupplyHour;
 use official_time::Hour;
-use sorted_table::{Place, Run, Slice, SortedTable, find_in};
+use sorted_table::{Place, Slice, SortedTable, find_in};
 use std::alloc::Global;
 use std::env;
 use std::time::Instant;
@@ -19,27 +19,42 @@ const HOURS: u32 = 720;
 
 type Entry = Place<SupplyHour, Wh>;
 
-// The decimal digit of a number at a place, counted from the last.
-fn digit(number: u32, place: u32) -> u8 {
-    let mut rest = number;
-    for _ in 0..place {
-        rest /= 10;
-    }
-    b'0' + (rest % 10) as u8
+// What is measured, and in which order the entries come.
+#[derive(Clone, Copy)]
+enum Workload {
+    InOrder,
+    OneRun,
+    Runs,
+    Interleaved,
+    Find,
 }
 
-fn entry(supply: u32, hour: u32) -> anyhow::Result<Entry> {
-    let mut code = *b"ES0000000000000000TR0F";
-    for place in 0..10 {
-        code[17 - place as usize] = digit(supply, place);
+impl Workload {
+    // A word that is none of the others stands for interleaved supplies.
+    fn of(word: &str) -> Workload {
+        match word {
+            "in-order" => Workload::InOrder,
+            "one-run" => Workload::OneRun,
+            "runs" => Workload::Runs,
+            "find" => Workload::Find,
+            _ => Workload::Interleaved,
+        }
     }
-    let supply_code = SupplyCode::new(&code)?;
-    let Some(end) = Hour::new(hour) else {
-        return Err(anyhow!("no such hour"));
-    };
+
+    fn entries(self, heap: Global, supplies: u32) -> anyhow::Result<Vec<Entry>> {
+        match self {
+            Workload::InOrder | Workload::OneRun => by_supply(heap, supplies, 1),
+            Workload::Runs => by_supply(heap, supplies, 617),
+            Workload::Interleaved | Workload::Find => by_hour(heap, supplies),
+        }
+    }
+}
+
+fn entry(heap: Global, supply: u32, hour: u32) -> anyhow::Result<Entry> {
+    let code = format!(in heap; "ES{supply:016}TR0F")?;
     let key = SupplyHour {
-        supply: supply_code,
-        hour: end,
+        supply: SupplyCode::try_from(code.as_bytes())?,
+        hour: Hour::new(hour).ok_or_else(|| anyhow!("no such hour"))?,
     };
     let value = Wh(u64::from(supply ^ hour));
     Ok(Place { key, value })
@@ -50,8 +65,8 @@ fn by_supply(heap: Global, supplies: u32, step: u32) -> anyhow::Result<Vec<Entry
     let mut entries = Vec::new(heap);
     let mut supply: u32 = 0;
     for _ in 0..supplies {
-        for hour in 1..HOURS + 1 {
-            entries.push(entry(supply, hour)?)?;
+        for hour in 1..=HOURS {
+            entries.push(entry(heap, supply, hour)?)?;
         }
         supply = supply.wrapping_add(step) % supplies;
     }
@@ -61,9 +76,9 @@ fn by_supply(heap: Global, supplies: u32, step: u32) -> anyhow::Result<Vec<Entry
 // Hour after hour, each of all supplies.
 fn by_hour(heap: Global, supplies: u32) -> anyhow::Result<Vec<Entry>> {
     let mut entries = Vec::new(heap);
-    for hour in 1..HOURS + 1 {
+    for hour in 1..=HOURS {
         for supply in 0..supplies {
-            entries.push(entry(supply, hour)?)?;
+            entries.push(entry(heap, supply, hour)?)?;
         }
     }
     Ok(entries)
@@ -82,18 +97,17 @@ fn put_runs(
     size: usize,
 ) -> anyhow::Result<()> {
     for run in entries.chunks(size.max(1)) {
-        if table.put_run(Slice::new(run)).is_err() {
-            return Err(anyhow!("a run was refused"));
-        }
+        table
+            .put_run(Slice::new(run))
+            .map_err(|_| anyhow!("a run was refused"))?;
     }
     Ok(())
 }
 
 fn find_each(entries: &[Entry], wanted: &[Entry]) -> u64 {
     let mut sum: u64 = 0;
-    let mut found = Wh(0);
     for entry in wanted {
-        if find_in(entries, &entry.key, &mut found) {
+        if let Some(found) = find_in(entries, &entry.key) {
             sum = sum.wrapping_add(found.0);
         }
     }
@@ -108,37 +122,29 @@ fn sum_of(entries: &[Entry]) -> u64 {
     sum
 }
 
-fn workload(heap: Global, name: &str, supplies: u32) -> anyhow::Result<Vec<Entry>> {
-    match name {
-        "in-order" | "one-run" => by_supply(heap, supplies, 1),
-        "runs" => by_supply(heap, supplies, 617),
-        _ => by_hour(heap, supplies),
-    }
-}
-
 fn filled(
     table: &mut SortedTable<SupplyHour, Wh>,
-    name: &str,
+    workload: Workload,
     entries: &[Entry],
 ) -> anyhow::Result<()> {
-    match name {
-        "one-run" => put_runs(table, entries, entries.len()),
-        "runs" => put_runs(table, entries, HOURS as usize),
+    match workload {
+        Workload::OneRun => put_runs(table, entries, entries.len()),
+        Workload::Runs => put_runs(table, entries, HOURS as usize),
         _ => put_each(table, entries),
     }
 }
 
 // Fills a table, or finds all its entries, and writes what came of it.
-fn run(rt: &HostRuntime, name: &str, supplies: u32, timed: bool) -> anyhow::Result<()> {
+fn run(rt: &HostRuntime, workload: Workload, supplies: u32, timed: bool) -> anyhow::Result<()> {
     let heap = rt.alloc();
-    let entries = workload(heap, name, supplies)?;
+    let entries = workload.entries(heap, supplies)?;
     let mut places = by_supply(heap, supplies, 1)?;
     let start = Instant::now(rt)?;
-    let (count, sum) = match name {
-        "find" => (places.len(), find_each(&places, &entries)),
+    let (count, sum) = match workload {
+        Workload::Find => (places.len(), find_each(&places, &entries)),
         _ => {
             let mut table = SortedTable::new(&mut places);
-            filled(&mut table, name, &entries)?;
+            filled(&mut table, workload, &entries)?;
             (table.len(), sum_of(table.entries()))
         }
     };
@@ -161,5 +167,5 @@ fn main(rt: HostRuntime) -> anyhow::Result<()> {
         None => 1,
     };
     let timed = words.next().is_none();
-    run(&rt, name.as_str(), supplies.max(1), timed)
+    run(&rt, Workload::of(name.as_str()), supplies.max(1), timed)
 }

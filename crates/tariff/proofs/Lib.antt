@@ -1,2 +1,1 @@
 pub mod January
-pub mod Lists

@@ -1,5 +1,6 @@
 -- The rules of the three calendars: the tariff period of every hour.
-use Rattle.std.specs.Prelude.{◌≡◌, ℕ, ◌+◌, ◌*◌, ◌/◌, ◌<◌, Bool, true, false, cond, ◌||◌, List, [], ◌∷◌, ◌==◌}
+use Rattle.std.specs.Prelude.{◌≡◌, ℕ, ◌+◌, ◌*◌, ◌/◌, ◌<◌, Bool, true, false, cond, ◌||◌, List, ◌==◌}
+use Rattle.std.specs.List.{list_any}
 use Rattle.vocabulary.specs.Ranges.{between}
 use Rattle.official_time.specs.Dates.{day_of, is_date, on, weekday}
 use Rattle.official_time.specs.Hours.{clock_day, clock_place, flag}
@@ -33,8 +34,7 @@ abbrev pub is_6_january : ℕ → Bool
 is_6_january d = d == day_of (on (2000 + 4 * d / 1461) 1 6)
 
 abbrev pub listed : ℕ → List Day → Bool
-listed d [] = false
-listed d (x ∷ xs) = d == x.number || listed d xs
+listed d = list_any (λ x. x.number == d)
 
 unfoldable pub free_day : List Day → ℕ → Bool
 free_day holidays d = is_weekend (weekday d) || is_6_january d || listed d holidays

@@ -1,12 +1,11 @@
 // The calendars of the tariffs 2.0A, 2.0DHA and 2.0TD.
-ghost use Rattle.std.specs.Prelude.{◌≡◌, ◌<◌, ◌≤◌, true, false, length, MatchResult};
+ghost use Rattle.std.specs.Prelude.{◌≡◌, ◌<◌, ◌≤◌, length};
 ghost use Rattle.tariff.specs.Calendars.{timetable_20a, timetable_20dha, timetable_20td};
 ghost use Rattle.tariff.specs.Rules.{by_place, free_day, is_6_january, is_weekend, listed, SixJanuaryLaw};
-ghost use Rattle.vocabulary.specs.Refusals.{notice, plain};
 
 use crate::calendar::Calendar;
 use official_time::{Day, Hour, Season, Weekday};
-use vocabulary::Refusal;
+use vocabulary::AtMost;
 
 // 2.0A: one period.
 #[derive(Clone, Copy, Debug)]
@@ -36,33 +35,15 @@ impl Calendar for Calendar20Dha {
     }
 
     fn period(&self, hour: Hour) -> usize {
-        let place = hour.clock_place();
-        let peak = match hour.season() {
-            Season::Winter => 13 <= place && place <= 22,
-            Season::Summer => 14 <= place && place <= 23,
-        };
-        if peak { 1 } else { 2 }
-    }
-}
-
-// Up to 16 days that are holidays.
-#[derive(Clone, Copy, Debug)]
-pub struct Holidays<'a> {
-    days: &'a [Day],
-    ghost few: { length days.now ≤ 16 },
-}
-
-impl<'a> Holidays<'a> {
-    // These days as holidays; a 17th is refused with 12.
-    pub fn check(days: &'a [Day]) -> Result<Holidays<'a>, Refusal>
-        ensures { MatchResult result (λ h. (length days.now ≤ 16) × (h.days.now ≡ days.now)) (λ e. (16 < length days.now) × (notice e ≡ plain 12)) }
-    {
-        if days.len() > 16 {
-            return Err(Refusal::NotListed);
+        match (hour.season(), hour.clock_place()) {
+            (Season::Winter, 13..=22) | (Season::Summer, 14..=23) => 1,
+            _ => 2,
         }
-        Ok(Holidays { days })
     }
 }
+
+// Up to 16 days that are holidays; a 17th is refused.
+pub type Holidays<'a> = AtMost<'a, Day, 16>;
 
 // 2.0TD: period 3 at night and on free days, periods 1 and 2 by the clock on the others.
 #[derive(Clone, Copy, Debug)]
@@ -73,6 +54,7 @@ pub struct Calendar20Td<'a> {
 impl<'a> Calendar20Td<'a> {
     pub fn new(holidays: Holidays<'a>) -> Calendar20Td<'a>
         ensures value { result.holidays ≡ holidays.entry }
+        ensures few { length result.holidays.items.now ≤ 16 }
         ensures january { SixJanuaryLaw }
     {
         Calendar20Td { holidays }
@@ -80,25 +62,22 @@ impl<'a> Calendar20Td<'a> {
 
     // Saturdays, Sundays, 6 January and the holidays.
     fn is_free(&self, day: Day) -> bool
-        ensures { result ≡ free_day self.now.holidays.days.now day.number }
+        ensures { result ≡ free_day self.now.holidays.items.now day.number }
     {
         is_weekend(day.weekday()) || is_6_january(day) || self.is_holiday(day)
     }
 
     fn is_holiday(&self, day: Day) -> bool
-        ensures { result ≡ listed day.number self.now.holidays.days.now }
+        ensures { result ≡ listed day.number self.now.holidays.items.now }
     {
-        self.holidays.days.contains(&day)
+        self.holidays.as_slice().contains(&day)
     }
 }
 
 fn is_weekend(weekday: Weekday) -> bool
     ensures { result ≡ is_weekend weekday }
 {
-    match weekday {
-        Weekday::Saturday | Weekday::Sunday => true,
-        _ => false,
-    }
+    matches!(weekday, Weekday::Saturday | Weekday::Sunday)
 }
 
 fn is_6_january(day: Day) -> bool
@@ -119,7 +98,7 @@ fn by_place(place: u32) -> usize
 }
 
 impl Calendar for Calendar20Td<'_> {
-    ghost timetable = { λ c. timetable_20td c.holidays.days.now };
+    ghost timetable = { λ c. timetable_20td c.holidays.items.now };
 
     fn periods(&self) -> usize {
         3

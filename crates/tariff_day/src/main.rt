@@ -10,7 +10,7 @@ ghost use Rattle.vocabulary.specs.Refusals.{notice, plain};
 mod lines;
 mod report;
 
-use lines::line_end;
+use lines::Lines;
 use official_time::Day;
 use report::answer;
 use std::env;
@@ -22,9 +22,7 @@ use vocabulary::Refusal;
 fn holiday(word: &str) -> Result<Day, Refusal>
     ensures { IfErr result (λ e. notice e ≡ plain 16) }
 {
-    let Ok(number) = word.parse::<u32>() else {
-        return Err(Refusal::NoSuchDate);
-    };
+    let number = word.parse().map_err(|_| Refusal::NoSuchDate)?;
     Day::new(number).ok_or(Refusal::NoSuchDate)
 }
 
@@ -49,13 +47,10 @@ fn read_holidays(rt: &HostRuntime) -> anyhow::Result<Vec<Day>>
 // Answers each line of the input, with or without a line break at its end.
 fn answer_all(rt: &HostRuntime, td: &Calendar20Td, input: &[u8]) -> anyhow::Result<()> {
     let mut out = String::new(rt.alloc());
-    let mut from = 0;
-    while from < input.len() {
-        let end = line_end(input, from);
-        answer(&mut out, td, &input[from..end])?;
+    for line in Lines::new(input) {
+        answer(&mut out, td, line)?;
         rt.print(out.as_str())?;
         out.clear();
-        from = end + 1;
     }
     Ok(())
 }

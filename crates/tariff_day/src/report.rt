@@ -1,5 +1,5 @@
 // The lines of hours.
-ghost use Rattle.std.specs.Prelude.{◌≡◌, ℕ, true, List, ◌++◌, Some, string_bytes, MatchResult, OnOk};
+ghost use Rattle.std.specs.Prelude.{◌≡◌, ℕ, List, ◌++◌, Some, string_bytes, MatchResult, OnOk};
 ghost use Rattle.official_time.specs.Hours.{IsLabel};
 ghost use Rattle.tariff_day.specs.Report.{Answers, DayText, hour_line, IsDay, line_text};
 ghost use Rattle.vocabulary.specs.Refusals.{notice, plain};
@@ -25,7 +25,7 @@ impl HourLine {
     fn of(td: &Calendar20Td, hour: Hour) -> HourLine
         ensures hour { result.hour.number ≡ hour.number }
         ensures label { IsLabel hour.number result.label }
-        ensures periods { (result.period_20a ≡ rule_20a hour.number) × (result.period_20dha ≡ rule_20dha hour.number) × (result.period_20td ≡ rule_20td td.now.holidays.days.now hour.number) }
+        ensures periods { (result.period_20a ≡ rule_20a hour.number) × (result.period_20dha ≡ rule_20dha hour.number) × (result.period_20td ≡ rule_20td td.now.holidays.items.now hour.number) }
     {
         HourLine {
             hour,
@@ -47,13 +47,13 @@ impl fmt::Display for HourLine {
         let a = self.period_20a;
         let b = self.period_20dha;
         let c = self.period_20td;
-        write!(f, "{number};{label};{flag};{a};{b};{c}\n")
+        writeln!(f, "{number};{label};{flag};{a};{b};{c}")
     }
 }
 
 // Appends the line of an hour.
 fn write_hour(out: &mut String, td: &Calendar20Td, hour: Hour) -> Result<(), AllocError>
-    ensures { OnOk result ((l : Label) × IsLabel hour.number l × (string_bytes out.new ≡ string_bytes out.old ++ hour_line td.now.holidays.days.now hour.number l)) }
+    ensures { OnOk result ((l : Label) × IsLabel hour.number l × (string_bytes out.new ≡ string_bytes out.old ++ hour_line td.now.holidays.items.now hour.number l)) }
 {
     let line = HourLine::of(td, hour);
     write!(out, "{line}")
@@ -61,21 +61,18 @@ fn write_hour(out: &mut String, td: &Calendar20Td, hour: Hour) -> Result<(), All
 
 // Appends the lines of the hours of a clock day.
 fn write_day(out: &mut String, td: &Calendar20Td, day: Day) -> Result<(), AllocError>
-    ensures { OnOk result ((bytes : List ℕ) × DayText td.now.holidays.days.now day.number bytes × (string_bytes out.new ≡ string_bytes out.old ++ bytes)) }
+    ensures { OnOk result ((bytes : List ℕ) × DayText td.now.holidays.items.now day.number bytes × (string_bytes out.new ≡ string_bytes out.old ++ bytes)) }
 {
     let hours = DayHours::of(day);
-    for number in hours.first.number()..hours.last.number() + 1 {
-        let Some(hour) = Hour::new(number) else {
-            unreachable()
-        };
-        write_hour(out, td, hour)?;
+    for number in hours.first.number()..=hours.last.number() {
+        write_hour(out, td, Hour::new(number).unwrap())?;
     }
     Ok(())
 }
 
 // Appends the answer to a line of input.
 pub fn answer(out: &mut String, td: &Calendar20Td, line: &[u8]) -> Result<(), AllocError>
-    ensures { OnOk result ((bytes : List ℕ) × Answers td.now.holidays.days.now line.now bytes × (string_bytes out.new ≡ string_bytes out.old ++ bytes)) }
+    ensures { OnOk result ((bytes : List ℕ) × Answers td.now.holidays.items.now line.now bytes × (string_bytes out.new ≡ string_bytes out.old ++ bytes)) }
 {
     match day_of(line) {
         Ok(day) => write_day(out, td, day),
@@ -87,5 +84,5 @@ pub fn answer(out: &mut String, td: &Calendar20Td, line: &[u8]) -> Result<(), Al
 fn day_of(line: &[u8]) -> Result<Day, Refusal>
     ensures { MatchResult result (λ d. IsDay line.now d.number) (λ e. (notice e ≡ plain 16) × ((d : ℕ) → IsDay line.now d → ⊥)) }
 {
-    Date::read(line)?.day()
+    Date::try_from(line)?.day()
 }

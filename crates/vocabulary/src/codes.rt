@@ -1,10 +1,11 @@
 // The codes of supplies, participants and invoices. A code that is held is well formed: its type has
 // no other value.
-mod alphabet;
+pub mod alphabet;
+pub mod code;
 pub mod invoice;
-pub mod participant;
-pub mod supply;
+pub mod text;
 
+pub use alphabet::Alphabet;
+pub use code::{Code, ParticipantCode, SupplyCode};
 pub use invoice::InvoiceCode;
-pub use participant::ParticipantCode;
-pub use supply::SupplyCode;
+pub use text::ascii_text;

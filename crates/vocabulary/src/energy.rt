@@ -27,17 +27,19 @@ impl Wh {
 }
 
 impl KWh {
-    // A balance in Wh: the one bridge between the two units.
-    pub fn in_wh(self) -> Wh
-        ensures { result.0 ≡ 1000 * self.0 }
-    {
-        Wh(1000 * self.0 as u64)
-    }
-
     // The sum, unless it passes the type.
     pub fn checked_add(self, other: Self) -> Option<Self>
         ensures { MatchOption result (2 ^ 32 ≤ self.0 + other.0) (λ sum. sum.0 ≡ self.0 + other.0) }
     {
         Some(KWh(self.0.checked_add(other.0)?))
+    }
+}
+
+// A balance in Wh: the one bridge between the two units.
+impl From<KWh> for Wh {
+    ghost from_gives = { λ balance energy. energy.0 ≡ 1000 * balance.0 };
+
+    fn from(balance: KWh) -> Wh {
+        Wh(1000 * u64::from(balance.0))
     }
 }

@@ -7,7 +7,7 @@ use std::error::Error;
 use std::fmt;
 
 // A field of a line of an F5D file.
-#[derive(Clone, Copy, Debug)]
+#[derive(Clone, Copy, PartialEq, Eq, Debug)]
 pub enum Field {
     Supply,
     Label,
@@ -47,7 +47,7 @@ impl Field {
 }
 
 // Why a call was refused. Each case has a number of its own, but that 13 speaks of a name or a line.
-#[derive(Clone, Copy, Debug)]
+#[derive(Clone, Copy, PartialEq, Eq, Debug)]
 pub enum Refusal {
     // 1: no hour has this label
     NoSuchLabel,
@@ -109,7 +109,7 @@ pub enum Refusal {
     VersionsUsedUp,
     // 32: the supply is in the file already
     SupplyInFile,
-    // 33: the buffer is too short for the curve's lines
+    // 33: the buffer is too short for what goes into it, a curve's lines, a line or a name
     BufferTooShort,
     // 34: not the file that comes next
     NotTheNextFile,
@@ -120,7 +120,7 @@ pub enum Refusal {
 }
 
 // A refusal as it is told: number, line (0 for none) and field letter (`-` for none).
-#[derive(Clone, Copy, Debug)]
+#[derive(Clone, Copy, PartialEq, Eq, Debug)]
 pub struct Notice {
     pub number: u8,
     pub line: usize,

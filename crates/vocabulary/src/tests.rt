@@ -1,6 +1,5 @@
+use crate::codes::code::*;
 use crate::codes::invoice::*;
-use crate::codes::participant::*;
-use crate::codes::supply::*;
 use crate::energy::*;
 use crate::refusal::*;
 use std::test::Fail;
@@ -54,36 +53,36 @@ fn refusals_are_told(rt: HostRuntime) -> Result<(), Fail> {
 
 #[test]
 fn supply_codes_are_22_digits_or_capitals(rt: HostRuntime) -> Result<(), Fail> {
-    let code = SupplyCode::new(b"ES0000000000000001TR0F")?;
+    let code = SupplyCode::try_from(b"ES0000000000000001TR0F".as_slice())?;
     assert_eq!(rt; code.as_bytes(), b"ES0000000000000001TR0F".as_slice());
-    assert!(rt; SupplyCode::new(b"ES0000000000000001TR0").is_err());
-    assert!(rt; SupplyCode::new(b"ES0000000000000001TR0FF").is_err());
-    assert!(rt; SupplyCode::new(b"ES0000000000000001TR0f").is_err());
+    assert!(rt; SupplyCode::try_from(b"ES0000000000000001TR0".as_slice()).is_err());
+    assert!(rt; SupplyCode::try_from(b"ES0000000000000001TR0FF".as_slice()).is_err());
+    assert!(rt; SupplyCode::try_from(b"ES0000000000000001TR0f".as_slice()).is_err());
     Ok(())
 }
 
 #[test]
 fn participant_codes_are_4_digits_or_capitals(rt: HostRuntime) -> Result<(), Fail> {
-    let code = ParticipantCode::new(b"0021")?;
+    let code = ParticipantCode::try_from(b"0021".as_slice())?;
     assert_eq!(rt; code.as_bytes(), b"0021".as_slice());
-    assert!(rt; ParticipantCode::new(b"21").is_err());
+    assert!(rt; ParticipantCode::try_from(b"21".as_slice()).is_err());
     Ok(())
 }
 
 #[test]
 fn invoice_codes_are_1_to_26_visible_bytes(rt: HostRuntime) -> Result<(), Fail> {
-    let code = InvoiceCode::new(b"F0001")?;
+    let code = InvoiceCode::try_from(b"F0001".as_slice())?;
     assert_eq!(rt; code.as_bytes(), b"F0001".as_slice());
-    assert!(rt; InvoiceCode::new(b"").is_err());
-    assert!(rt; InvoiceCode::new(b"F00000000000000000000000001").is_err());
-    assert!(rt; InvoiceCode::new(b"F;0001").is_err());
-    assert!(rt; InvoiceCode::new(b"F 0001").is_err());
+    assert!(rt; InvoiceCode::try_from(b"".as_slice()).is_err());
+    assert!(rt; InvoiceCode::try_from(b"F00000000000000000000000001".as_slice()).is_err());
+    assert!(rt; InvoiceCode::try_from(b"F;0001".as_slice()).is_err());
+    assert!(rt; InvoiceCode::try_from(b"F 0001".as_slice()).is_err());
     Ok(())
 }
 
 #[test]
 fn energies_stay_in_their_unit(rt: HostRuntime) {
-    assert_eq!(rt; KWh(3).in_wh(), Wh(3000));
+    assert_eq!(rt; Wh::from(KWh(3)), Wh(3000));
     assert_eq!(rt; Wh(1).checked_add(Wh(2)), Some(Wh(3)));
     assert_eq!(rt; KWh(u32::MAX).checked_add(KWh(1)), None);
 }

@@ -70,9 +70,7 @@ mod tests {
     fn all_hours_agree_with_the_official_clock(rt: HostRuntime) -> Result<(), Fail> {
         let mut digest = 0;
         for number in 1..876_600 {
-            let Some(hour) = Hour::new(number) else {
-                return Err(Fail::new("no such hour"));
-            };
+            let hour = Hour::new(number).ok_or_else(|| Fail::new("no such hour"))?;
             digest = mixed(digest, hour);
         }
         assert_eq!(rt; digest, 18_143_043_138_349_695_466);

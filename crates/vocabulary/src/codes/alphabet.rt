@@ -1,10 +1,11 @@
-// The bytes that codes are made of.
+// The bytes that codes, and the numbers beside them in names and lines, are made of.
 ghost use Rattle.std.specs.Prelude.{◌≡◌};
-ghost use Rattle.vocabulary.specs.Codes.{every};
+ghost use Rattle.std.specs.List.{list_all};
 ghost use Rattle.vocabulary.specs.Alphabets.{has};
 
-#[derive(Clone, Copy)]
-pub(super) enum Alphabet {
+#[derive(Clone, Copy, Debug)]
+pub enum Alphabet {
+    Digits,
     // digits and capital letters
     Code,
     // visible ASCII without `;`
@@ -12,23 +13,19 @@ pub(super) enum Alphabet {
 }
 
 impl Alphabet {
-    fn has(self, b: u8) -> bool
+    pub fn has(self, b: u8) -> bool
         ensures { result ≡ has self b }
     {
         match self {
+            Alphabet::Digits => b.is_ascii_digit(),
             Alphabet::Code => matches!(b, b'0'..=b'9' | b'A'..=b'Z'),
             Alphabet::Visible => matches!(b, b'!'..=b'~') && b != b';',
         }
     }
 
-    pub(super) fn has_all(self, text: &[u8]) -> bool
-        ensures { result ≡ every (has self) text.now }
+    pub fn has_all(self, text: &[u8]) -> bool
+        ensures { result ≡ list_all (has self) text.now }
     {
-        for b in text {
-            if !self.has(*b) {
-                return false;
-            }
-        }
-        true
+        text.iter().all(|b| self.has(*b))
     }
 }

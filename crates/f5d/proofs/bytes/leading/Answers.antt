@@ -1,33 +1,15 @@
-use Rattle.std.proofs.Common.{◌≡◌, suc, ◌+◌, ◌-◌, drop, ap, ◌∙◌, arith, rules}
-use Rattle.f5d.specs.Reading.{leading}
-use Rattle.f5d.proofs.Leading.{leading_ends, leading_more, leading_stops}
+use Rattle.std.proofs.Common.{not, length, take, ap, ◌∙◌}
+use Rattle.std.proofs.lemmas.List.{take_min}
+use Rattle.std.specs.List.{position}
+use Rattle.std.specs.Option.{unwrap_or}
+use Rattle.vocabulary.specs.Alphabets.{has}
+use Rattle.f5d.proofs.Leading.{first_place, leading_place}
 use Rattle.f5d.proofs.bytes.leading.Goals as goal
 
-pub returns-then-not-has : goal.returns-then-not-has
-returns-then-not-has g c =
-    let test = g.C.Class.test c.args.class in
-    let most = c.args.most in
-    let at = c.loop-at.at in
+pub returns-clause-value : goal.returns-clause-value
+returns-clause-value c =
     let bytes = c.args.bytes.now in
-    let end = c.min-end.ensures in
-    let stop = leading_stops test (most - at) at bytes (search rules) (search rules) in
-    record { value = omega (arith, c.loop-at.invariant); bound = (search rules, search rules) }
-
-pub loop-at-preserved : goal.loop-at-preserved
-loop-at-preserved g c =
-    let test = g.C.Class.test c.args.class in
     let most = c.args.most in
-    let at = c.loop-at.at in
-    let bytes = c.args.bytes.now in
-    let one : most - at ≡ suc (most - (at + 1)) = search rules in
-    let next : suc at ≡ at + 1 = omega arith in
-    let more : leading test (most - at) (drop at bytes) ≡ suc (leading test (most - (at + 1)) (drop (at + 1) bytes))
-    = ap (λ k. leading test k (drop at bytes)) one ∙ leading_more test (most - (at + 1)) at bytes (search rules) (search rules) ∙ ap (λ k. suc (leading test (most - (at + 1)) (drop k bytes))) next in
-    omega (arith, c.loop-at.invariant)
-
-pub returns : goal.returns
-returns g c =
-    let test = g.C.Class.test c.args.class in
-    let at = c.loop-at.at in
-    let end = leading_ends test (c.args.most - at) at c.args.bytes.now (search rules) in
-    record { value = search rules; bound = (search rules, search rules) }
+    let test = has c.args.alphabet in
+    rw (c.unwrap_or.ensures, c.first_other.ensures)
+    (ap (λ xs. unwrap_or (position (λ b. not (test b)) xs) (length xs)) (ap (λ k. take k bytes) c.min.ensures ∙ take_min most bytes) ∙ first_place (λ b. not (test b)) (take most bytes) ∙ leading_place test most bytes)

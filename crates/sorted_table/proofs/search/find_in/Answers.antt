@@ -1,21 +1,20 @@
-use Rattle.std.proofs.Common.{Equal, refl}
-use Rattle.std.proofs.lemmas.Bool.{true≢false}
-use Rattle.sorted_table.proofs.Entries.{found_at, has_at, lacks_here}
-use Rattle.sorted_table.proofs.Steps.{stands}
+use Rattle.std.proofs.Common.{MatchOption, get_or, rules}
+use Rattle.std.proofs.lemmas.Fn.{always_returns_same}
+use Rattle.std.specs.List.{Contains}
+use Rattle.sorted_table.specs.Entries.{entry, Lacks, Rising}
+use Rattle.sorted_table.proofs.Compared.{searched}
+use Rattle.sorted_table.proofs.search.find_in.Given as given
 use Rattle.sorted_table.proofs.search.find_in.Goals as goal
+use Rattle.sorted_table.proofs.search.find_in.Goals.{After-ok}
 
-pub bounds-entries-at : goal.bounds-entries-at
-bounds-entries-at g c = (has_at g.K.Key.order c.args.key.now c.args.entries.now c.lower_bound-at.result (stands g.K.Key.before c.args.entries.now c.lower_bound-at.result c.args.key.now Equal c.in-Equal.ensures.there c.in-Equal.ensures.past)).0
+-- the closure compares an entry's key
+by_order : (g : given.Over) (c : After-ok g) → Rising g.K.Key.before c.args.entries.now → MatchOption c.ok.result (Lacks c.args.entries.now c.args.key.now) (λ i. (x : _) → Contains c.args.entries.now (entry c.args.key.now (get_or c.args.entries.now i x).value))
+by_order g c up =
+    let s = c.binary_search_by.ensures in
+    rw c.ok.ensures.value (searched g.K.Key.order g.K.Ord.cmp g.met.K.Key.agrees g.met.K.Ord.total _ _ up _ s.bound (s.position (λ x. g.K.Ord.cmp x.key c.args.key.now) (always_returns_same _ _ _ (λ x r f called. search rules))))
 
-pub bounds-entries-at-in-Equal : goal.bounds-entries-at-in-Equal
-bounds-entries-at-in-Equal g c = (has_at g.K.Key.order c.args.key.now c.args.entries.now c.lower_bound-at.result (stands g.K.Key.before c.args.entries.now c.lower_bound-at.result c.args.key.now Equal c.in-Equal.ensures.there c.in-Equal.ensures.past)).0
+pub returns-in_err-at : goal.returns-in_err-at
+returns-in_err-at g c up = rw c.from_residual.ensures (rw c.in_err-at.was at (by_order g (goal.at.returns-in_err-at g c).After-ok up))
 
-pub returns-in-Equal : goal.returns-in-Equal
-returns-in-Equal g c = record { found = λ up. found_at g.K.Key.order c.args.key.now c.args.entries.now c.lower_bound-at.result c.index-entries-at.result (stands g.K.Key.before c.args.entries.now c.lower_bound-at.result c.args.key.now Equal c.in-Equal.ensures.there c.in-Equal.ensures.past); same = λ e. absurd (true≢false e) }
-
-pub returns-in_default : goal.returns-in_default
-returns-in_default g c =
-    record {
-      found = λ up. lacks_here g.K.Key.order c.args.key.now c.args.entries.now c.lower_bound-at.result c.order_at.result up (c.lower_bound-at.ensures.parted up) (stands g.K.Key.before c.args.entries.now c.lower_bound-at.result c.args.key.now c.order_at.result c.order_at.ensures.there c.order_at.ensures.past) c.in_default.not-Equal;
-      same = λ _. refl;
-    }
+pub returns : goal.returns
+returns g c up = (rw c.in_ok-at.was at (by_order g (goal.at.returns g c).After-ok up)) _

@@ -1,4 +1,5 @@
 use Rattle.std.proofs.Common.{cond, eqb, ap, ◌∙◌, ap₂}
+use Rattle.closing.specs.Lent.{totals}
 use Rattle.closing.specs.Periods.{method_by, total_by}
 use Rattle.closing.proofs.Beginning.{begun}
 use Rattle.closing.proofs.period.PeriodShare.begin.Goals as goal
@@ -8,7 +9,8 @@ returns c =
     let f = c.args.figures in
     let r = c.of-rule.result in
     λ k b p ef es ek.
-    begun k b p r f c.args.kwh.0 c.requires.0 c.requires.1 ef ek c.of-rule.ensures c.new-share.result
-    (c.new-share.ensures.0 ∙ c.to_share-total.ensures ∙ ap (total_by r f) c.in_wh.ensures)
-    (c.new-share.ensures.1 ∙ c.sum_of-sum.ensures ∙ ap₂ (λ x y. cond (eqb x 0) y x) c.weights_of-weights.ensures c.count_of.ensures)
-    c.new-share.ensures.2 c.of_missing-missing.result (c.of_missing-missing.ensures ∙ ap method_by es) c.weights_of-weights.result c.weights_of-weights.ensures
+    begun k b p r f c.args.kwh.0 c.requires ef ek c.of-rule.ensures c.new.result
+    (c.new.ensures.total ∙ c.to_share.ensures ∙ ap (total_by r (totals f)) c.from.ensures)
+    (c.new.ensures.even ∙ ap (λ x. eqb x 0) c.weights.ensures)
+    (c.new.ensures.sum ∙ ap₂ (λ x y. cond (eqb x 0) y x) c.weights.ensures c.count.ensures)
+    c.new.ensures.past c.missing_method.result (c.missing_method.ensures ∙ ap method_by es)

@@ -1,61 +1,50 @@
 use Rattle.std.proofs.Common.{sym}
-use Rattle.closing.proofs.Giving.{closes_kept_read, closes_none_missing, closes_shared_missing, closes_shared_read, kept_stays, may_take, missing_takes, moved, none_stays, read_takes, taken}
+use Rattle.closing.proofs.Giving.{closes_kept_read, closes_none_missing, closes_shared_missing, closes_shared_read, given, kept_stays, may_take, missing_takes, moved, none_stays, read_takes, taken}
 use Rattle.closing.proofs.period.PeriodShare.give.Goals as goal
+use Rattle.closing.proofs.period.PeriodShare.give.Goals.{in-Some, in-Some-2, in-None, in-None-2}
 
 pub next-requires : goal.next-requires
 next-requires c =
     let k = c.requires in
     let d = k.1.1.1.1 in
-    may_take k.0 k.1.0 k.1.1.0 k.1.1.1.0 c.args.self.now c.args.hour c.args.weight d c.counted-weight.result c.counted-weight.ensures
-    (read_takes k.0 k.1.0 k.1.1.0 k.1.1.1.0 c.args.self.now c.args.hour c.args.weight d c.in-Some.energy c.in-Some.is (sym c.if-changes.ensures))
+    let t = read_takes k.0 k.1.0 k.1.1.0 k.1.1.1.0 c.args.self.now c.args.hour c.args.weight d c.in-Some.field-0 c.in-Some.is (sym c.if-changes.ensures) in
+    let m = may_take k.0 k.1.0 k.1.1.0 k.1.1.1.0 c.args.self.now c.args.hour c.args.weight d t in
+    record { some = m.0; within = m.1.0; fits = m.1.1 }
 
-pub next-requires-then-fills : goal.next-requires-then-fills
-next-requires-then-fills c =
+pub next-requires-in-None : goal.next-requires-in-None
+next-requires-in-None c =
     let k = c.requires in
     let d = k.1.1.1.1 in
-    may_take k.0 k.1.0 k.1.1.0 k.1.1.1.0 c.args.self.now c.args.hour c.args.weight d c.counted-weight.result c.counted-weight.ensures
-    (missing_takes k.0 k.1.0 k.1.1.0 k.1.1.1.0 c.args.self.now c.args.hour c.args.weight d c.in-None.is (sym c.if-fills.ensures))
+    let t = missing_takes k.0 k.1.0 k.1.1.0 k.1.1.1.0 c.args.self.now c.args.hour c.args.weight d c.in-None.is (sym c.if-fills.ensures) in
+    let m = may_take k.0 k.1.0 k.1.1.0 k.1.1.1.0 c.args.self.now c.args.hour c.args.weight d t in
+    record { some = m.0; within = m.1.0; fits = m.1.1 }
 
-pub returns-then-changes : goal.returns-then-changes
-returns-then-changes c =
+pub returns : goal.returns
+returns c =
     let s = c.args.self.now in
     let o = c.args.hour in
     let w = c.args.weight in
-    let v = c.counted-weight.result in
-    let ev = c.counted-weight.ensures in
-    let a = sym c.if-changes.ensures in
     λ k b p i d.
-    let t = read_takes k b p i s o w d c.in-Some.energy c.in-Some.is a in (
-      closes_shared_read k b p i s o w d c.in-Some.energy c.in-Some.is a c.next.result (taken k b p i s o w d v ev t c.next.result c.next.ensures.value),
-      moved k b p i s o w d v ev t c.next.new.self c.next.ensures.after.0 c.next.ensures.after.1 c.next.ensures.after.2,
-    )
-
-pub returns-else-changes : goal.returns-else-changes
-returns-else-changes c =
-    let s = c.args.self.now in
-    let o = c.args.hour in
-    let w = c.args.weight in
-    let a = sym c.if-changes.ensures in
-    λ k b p i d. (closes_kept_read k b p i s o w d c.in-Some.energy c.in-Some.is a, kept_stays k b p i s o w d c.in-Some.energy c.in-Some.is a)
-
-pub returns-then-fills : goal.returns-then-fills
-returns-then-fills c =
-    let s = c.args.self.now in
-    let o = c.args.hour in
-    let w = c.args.weight in
-    let v = c.counted-weight.result in
-    let ev = c.counted-weight.ensures in
-    let a = sym c.if-fills.ensures in
-    λ k b p i d.
-    let t = missing_takes k b p i s o w d c.in-None.is a in (
-      closes_shared_missing k b p i s o w d c.in-None.is a c.next-then-fills.result _ (taken k b p i s o w d v ev t c.next-then-fills.result c.next-then-fills.ensures.value) d.state.missing,
-      moved k b p i s o w d v ev t c.next-then-fills.new.self c.next-then-fills.ensures.after.0 c.next-then-fills.ensures.after.1 c.next-then-fills.ensures.after.2,
-    )
-
-pub returns-else-fills : goal.returns-else-fills
-returns-else-fills c =
-    let s = c.args.self.now in
-    let o = c.args.hour in
-    let w = c.args.weight in
-    let a = sym c.if-fills.ensures in
-    λ k b p i d. (closes_none_missing k b p i s o w d c.in-None.is a _ d.state.missing, none_stays k b p i s o w d c.in-None.is a)
+    elim c.match-hour.branch [
+      | in-Some r ↦
+          let e = r.in-Some.field-0 in
+          let a = sym r.if-changes.ensures in
+          let t = read_takes k b p i s o w d e r.in-Some.is a in
+          given k b p i _ _ _ _ r.method-is r.self-is
+          (closes_shared_read k b p i s o w d e r.in-Some.is a r.next.result (taken k b p i s o w d t r.next.result r.next.ensures.value))
+          (moved k b p i s o w d t r.next.new.self r.next.ensures.same r.next.ensures.past)
+      | in-Some-2 r ↦
+          let e = r.in-Some-2.energy in
+          let a = sym r.if-changes.ensures in
+          given k b p i _ _ _ _ r.method-is r.self-is (closes_kept_read k b p i s o w d e r.in-Some-2.is a) (kept_stays k b p i s o w d e r.in-Some-2.is a)
+      | in-None r ↦
+          let a = sym r.if-fills.ensures in
+          let t = missing_takes k b p i s o w d r.in-None.is a in
+          let n = r.next-in-None in
+          given k b p i _ _ _ _ r.method-is r.self-is
+          (closes_shared_missing k b p i s o w d r.in-None.is a n.result _ (taken k b p i s o w d t n.result n.ensures.value) d.state.missing)
+          (moved k b p i s o w d t n.new.self n.ensures.same n.ensures.past)
+      | in-None-2 r ↦
+          let a = sym r.if-fills.ensures in
+          given k b p i _ _ _ _ r.method-is r.self-is (closes_none_missing k b p i s o w d r.in-None-2.is a _ d.state.missing) (none_stays k b p i s o w d r.in-None-2.is a)
+    ]

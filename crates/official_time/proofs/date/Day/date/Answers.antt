@@ -13,5 +13,6 @@ returns c =
     let n = c.args.self.number in
     let y = in_year_of n in
     let m = c.month_at-month in
-    let d = date_in (4 * n / 1461) m.result.0 m.result.1 (n - c.days_before_year.result) (omega arith) m.ensures.before m.ensures.from m.ensures.to in
+    let b = c.days_before in
+    let d = date_in (4 * n / 1461) m.result b.result (n - c.days_before_year.result) (omega arith) b.ensures.value (omega arith) (omega arith) in
     record { real = d.0; value = omega arith; only = λ e h s. same_date e _ h d.0 (omega arith) }

@@ -1,22 +1,12 @@
 -- The text is the front of the bytes, and with the zeros behind it, it tells a code whole.
 use denote.Struct.Record.{values_one}
 use Rattle.std.proofs.Common.{◌≡◌, ℕ, ◌-◌, List, ◌++◌, length, take, replicate, refl, ap, arith}
-use Rattle.std.proofs.lemmas.List.{length-append, length-take, take_at}
+use Rattle.std.proofs.lemmas.List.{length-take, take_at}
 use Rattle.vocabulary.specs.contracts.codes.invoice.InvoiceCode.{struct, the_propositions}
 use Rattle.vocabulary.proofs.codes.invoice.held.Goals as goal
 
 front : (bytes text : List ℕ) → bytes ≡ text ++ replicate (26 - length text) 0 → take (length text) bytes ≡ text
 front bytes text e = rw e (take_at text (replicate (26 - length text) 0) (length text) refl)
-
-pub invariant_of-result : goal.invariant_of-result
-invariant_of-result c =
-    let same : take (length c.args.text.now) c.padded-bytes.result ≡ c.args.text.now
-    = front c.padded-bytes.result c.args.text.now c.padded-bytes.ensures in
-    record {
-      within = omega (arith, simp length-append at (ap length c.padded-bytes.ensures));
-      formed = rw same c.requires;
-      padded = cc;
-    }
 
 pub returns : goal.returns
 returns c = record {
