@@ -13,6 +13,32 @@ pub record TotalOrder {K : Type 0} (before : K → K → Type 0) : Type 0 where
   pub transitive : (a b c : K) → before a b → before b c → before a c
   pub total : (a b : K) → before a b ⊎ ((a ≡ b) ⊎ before b a)
 
+-- how a stands to b
+abbrev one_of_three : {P Q R : Type 0} → P ⊎ (Q ⊎ R) → Ordering
+one_of_three (inl p) = Less
+one_of_three (inr (inl q)) = Equal
+one_of_three (inr (inr r)) = Greater
+
+module _ {K : Type 0} {before : K → K → Type 0} where
+  abbrev pub compared : TotalOrder before → K → K → Ordering
+  compared order a b = one_of_three (order.total a b)
+
+  pub compared_agrees : (order : TotalOrder before) (a b : K) → MatchOrdering (compared order a b) (before a b) (a ≡ b) (before b a)
+  compared_agrees order a b = by (order.total a b)
+    where
+      by : (t : before a b ⊎ ((a ≡ b) ⊎ before b a)) → MatchOrdering (one_of_three t) (before a b) (a ≡ b) (before b a)
+      by (inl l) = l
+      by (inr (inl e)) = e
+      by (inr (inr g)) = g
+
+-- a total order turned round is one
+pub turned : {K : Type 0} {before : K → K → Type 0} → TotalOrder before → TotalOrder (λ a b. before b a)
+turned order = record {
+  irreflexive = order.irreflexive;
+  transitive = λ a b c l m. order.transitive c b a m l;
+  total = λ a b. ⊎_elim (λ l. inr (inr l)) (⊎_elim (λ e. inr (inl e)) inl) (order.total a b);
+}
+
 -- What has a number of its own is ordered by it.
 pub by_number : {K : Type 0} (number : K → ℕ) → ((a b : K) → number a ≡ number b → a ≡ b) → TotalOrder (λ a b. number a < number b)
 by_number number own = record {

@@ -45,7 +45,7 @@ fn count_new<K: Key, V: Copy, R: Run<K, V>>(
             let left = left.ok_or(RunRefused::TooFewPlaces)?;
             return Ok(free - left);
         };
-        if coming.key.cmp(&after.key).is_ge() {
+        if coming.key.compare(&after.key).is_ge() {
             return Err(RunRefused::NotAscending);
         }
         coming = after;

@@ -1,8 +1,9 @@
 // Finding a key among entries in order.
-ghost use Rattle.std.specs.Prelude.{◌<◌, ◌≤◌, ⊤, length, drop, MatchOption};
+ghost use Rattle.std.specs.Prelude.{◌≡◌, ◌<◌, ◌≤◌, ⊤, length, drop, MatchOption};
 ghost use Rattle.sorted_table.specs.Entries.{entry, Lacks, Rising};
 ghost use Rattle.sorted_table.specs.Searched.{Stands};
-ghost use Rattle.std.specs.Ordering.{MatchOrdering};
+ghost use Rattle.sorted_table.specs.Orders.{compared};
+ghost use Rattle.std.specs.Ordering.{is_lt, MatchOrdering};
 ghost use Rattle.std.specs.List.Sorted.{IsPartitionPoint};
 ghost use Rattle.std.specs.List.{Contains};
 
@@ -17,22 +18,34 @@ pub(crate) fn order_at<K: Key, V>(entries: &[Place<K, V>], at: usize, key: &K) -
 {
     entries
         .get(at)
-        .map_or(Ordering::Greater, |entry| entry.key.cmp(key))
+        .map_or(Ordering::Greater, |entry| entry.key.compare(key))
 }
 
-// The number of entries in order whose keys are before a key.
+// Whether an entry's key is before a key.
+fn is_before<K: Key, V>(entry: &Place<K, V>, key: &K) -> bool
+    ensures { result ≡ is_lt (compared K.order entry.now.key key.now) }
+{
+    entry.key.compare(key).is_lt()
+}
+
+// The number of entries in order whose keys are before a key. The last is asked first, since most keys come in order.
 pub(crate) fn lower_bound<K: Key, V>(entries: &[Place<K, V>], key: &K) -> usize
     requires { Rising K.before entries.now }
     ensures within { result ≤ length entries.now }
     ensures parted { IsPartitionPoint (λ x. K.before x.key key.now) (λ x. K.before x.key key.now → ⊥) entries.now result }
 {
-    entries.partition_point(|entry| entry.key.cmp(key).is_lt())
+    match entries {
+        [.., last] if is_before(last, key) => entries.len(),
+        _ => entries.partition_point(|entry| is_before(entry, key)),
+    }
 }
 
 // The value under a key among entries in order, if there is one.
 pub fn find_in<'a, K: Key, V>(entries: &'a [Place<K, V>], key: &K) -> Option<&'a V>
     ensures { Rising K.before entries.now → MatchOption result (Lacks entries.now key.now) (λ value. Contains entries.now (entry key.now value.now)) }
 {
-    let at = entries.binary_search_by(|entry| entry.key.cmp(key)).ok()?;
+    let at = entries
+        .binary_search_by(|entry| entry.key.compare(key))
+        .ok()?;
     Some(&entries[at].value)
 }

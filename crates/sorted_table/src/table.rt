@@ -1,6 +1,7 @@
 // The table over the places that it is lent.
 ghost use Rattle.std.specs.Prelude.{◌≤◌, length, take};
 ghost use Rattle.std.specs.List.Sorted.{IsStrictlySortedBy, IsStrictlySortedBy-prop};
+ghost use Rattle.sorted_table.specs.Orders.{compared};
 
 use crate::key::Key;
 use crate::merge::{RunRefused, plan, put_among};
@@ -15,7 +16,7 @@ pub struct SortedTable<'a, K: Key, V> {
     places: &'a mut [Place<K, V>],
     used: usize,
     ghost within: { used ≤ length places.now },
-    ghost ordered: { IsStrictlySortedBy (λ x y. K.cmp x.key y.key) (take used places.now) } by { IsStrictlySortedBy-prop (λ x y. K.cmp x.key y.key) (take used places.now) },
+    ghost ordered: { IsStrictlySortedBy (λ x y. compared K.order x.key y.key) (take used places.now) } by { IsStrictlySortedBy-prop (λ x y. compared K.order x.key y.key) (take used places.now) },
 }
 
 impl<'a, K: Key, V: Copy> SortedTable<'a, K, V> {

@@ -1,12 +1,13 @@
 // A table of four places, keyed by small numbers.
 ghost use Rattle.std.specs.Prelude.{◌<◌};
-ghost use Rattle.sorted_table.specs.Orders.{by_number, by_number_agrees};
+ghost use Rattle.sorted_table.specs.Orders.{by_number, turned};
 
 use crate::key::Key;
 use crate::merge::RunRefused;
 use crate::place::Place;
 use crate::run::Slice;
 use crate::table::SortedTable;
+use std::cmp::Ordering;
 use std::test::Fail;
 
 #[derive(Clone, Copy, Debug, PartialEq, Eq, PartialOrd, Ord)]
@@ -19,7 +20,25 @@ impl Key for Small {
 
     ghost order = { by_number (λ s. s.number) (λ a b e i. record { number = e i }) };
 
-    ghost agrees = { by_number_agrees (λ s. s.number) (λ a b e i. record { number = e i }) };
+    fn compare(&self, other: &Self) -> Ordering {
+        self.cmp(other)
+    }
+}
+
+// The latest comes first, and no other comparison is known.
+#[derive(Clone, Copy)]
+struct Late {
+    number: u32,
+}
+
+impl Key for Late {
+    ghost before = { λ a b. b.number < a.number };
+
+    ghost order = { turned (by_number (λ s. s.number) (λ a b e i. record { number = e i })) };
+
+    fn compare(&self, other: &Self) -> Ordering {
+        other.number.cmp(&self.number)
+    }
 }
 
 fn at(number: u32, value: u32) -> Place<Small, u32> {
@@ -138,5 +157,20 @@ fn gets_what_is_there(rt: HostRuntime) -> Result<(), Fail> {
     table.put_run(Slice::new(&[at(1, 10), at(3, 30), at(5, 50)]))?;
     assert_eq!(rt; table.get(&Small { number: 4 }), None);
     assert_eq!(rt; table.get(&Small { number: 3 }), Some(&30));
+    Ok(())
+}
+
+#[test]
+fn a_key_tells_its_order_alone(rt: HostRuntime) -> Result<(), Fail> {
+    let none = Place {
+        key: Late { number: 0 },
+        value: 0,
+    };
+    let mut places = [none, none];
+    let mut table = SortedTable::new(&mut places);
+    table.put(Late { number: 1 }, 10)?;
+    table.put(Late { number: 2 }, 20)?;
+    assert_eq!(rt; table.entries()[0].value, 20);
+    assert_eq!(rt; table.get(&Late { number: 1 }), Some(&10));
     Ok(())
 }

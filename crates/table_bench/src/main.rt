@@ -50,11 +50,20 @@ impl Workload {
     }
 }
 
-fn entry(heap: Global, supply: u32, hour: u32) -> anyhow::Result<Entry> {
-    let code = format!(in heap; "ES{supply:016}TR0F")?;
+fn entry(supply: u32, hour: u32) -> anyhow::Result<Entry> {
+    let mut code = *b"ES0000000000000000TR0F";
+    let mut rest = supply;
+    for digit in code[8..18].iter_mut().rev() {
+        *digit = b'0' + (rest % 10) as u8;
+        rest /= 10;
+    }
+    let supply_code = SupplyCode::try_from(code.as_slice())?;
+    let Some(end) = Hour::new(hour) else {
+        return Err(anyhow!("no such hour"));
+    };
     let key = SupplyHour {
-        supply: SupplyCode::try_from(code.as_bytes())?,
-        hour: Hour::new(hour).ok_or_else(|| anyhow!("no such hour"))?,
+        supply: supply_code,
+        hour: end,
     };
     let value = Wh(u64::from(supply ^ hour));
     Ok(Place { key, value })
@@ -66,7 +75,7 @@ fn by_supply(heap: Global, supplies: u32, step: u32) -> anyhow::Result<Vec<Entry
     let mut supply: u32 = 0;
     for _ in 0..supplies {
         for hour in 1..=HOURS {
-            entries.push(entry(heap, supply, hour)?)?;
+            entries.push(entry(supply, hour)?)?;
         }
         supply = supply.wrapping_add(step) % supplies;
     }
@@ -78,7 +87,7 @@ fn by_hour(heap: Global, supplies: u32) -> anyhow::Result<Vec<Entry>> {
     let mut entries = Vec::new(heap);
     for hour in 1..=HOURS {
         for supply in 0..supplies {
-            entries.push(entry(heap, supply, hour)?)?;
+            entries.push(entry(supply, hour)?)?;
         }
     }
     Ok(entries)

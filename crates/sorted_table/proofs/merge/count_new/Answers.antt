@@ -1,7 +1,8 @@
-use Rattle.std.proofs.Common.{◌-◌, ◌∷◌, Ok, Err, MatchResult, sym, subst, rules}
+use Rattle.std.proofs.Common.{◌-◌, ◌∷◌, Ok, Err, MatchResult, sym, ◌∙◌, subst, rules}
 use Rattle.std.proofs.lemmas.Result.{err_from_is_err_and}
+use Rattle.sorted_table.specs.Entries.{Rising}
 use Rattle.sorted_table.specs.Merged.{Counted}
-use Rattle.sorted_table.proofs.Compared.{not_ge_before}
+use Rattle.sorted_table.proofs.Compared.{ge_not_before, not_ge_before}
 use Rattle.sorted_table.proofs.Passes.{Ascending, Tally, ascending_more, counted_none, tally_equal, tally_less, tally_new, answered, ascending_all}
 use Rattle.sorted_table.proofs.merge.count_new.Given as given
 use Rattle.sorted_table.proofs.merge.count_new.Goals as goal
@@ -43,5 +44,11 @@ from_last g c = subst (λ run. Ascending g.K.Key.before (c.in-Some.coming ∷ g.
 pub loop-at-preserved : goal.loop-at-preserved
 loop-at-preserved g c = (
   subst (Tally _ _ _ _ _ _) c.in-Some-next.ensures (seen_one g (goal.at.loop-at-preserved g c).After-next-in-loop-at),
-  ascending_more g.K.Key.order _ _ _ _ (not_ge_before g.K.Key.order g.K.Ord.cmp g.met.K.Key.agrees c.loop-at.coming.key c.in-Some-next.after.key (search rules)) (from_last g (goal.at.loop-at-preserved g c).After-is_ge),
+  ascending_more g.K.Key.order _ _ _ _ (not_ge_before g.K.Key.order _ _ _ c.compare.ensures (search rules)) (from_last g (goal.at.loop-at-preserved g c).After-is_ge),
 )
+
+pub returns-then-is_ge : goal.returns-then-is_ge
+returns-then-is_ge g c = λ up.
+    let run = c.loop-at.invariant.1.back (subst (Rising g.K.Key.before) c.in-Some.ensures up) in
+    let next = subst (λ zs. Rising g.K.Key.before (c.loop-at.coming ∷ zs)) c.in-Some-next.ensures run in
+    ge_not_before g.K.Key.order _ _ c.compare.result c.compare.ensures (sym c.is_ge.ensures ∙ c.if-is_ge.true) next.0.0

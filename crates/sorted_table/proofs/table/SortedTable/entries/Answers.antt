@@ -2,4 +2,4 @@ use Rattle.sorted_table.proofs.Compared.{rising}
 use Rattle.sorted_table.proofs.table.SortedTable.entries.Goals as goal
 
 pub returns-clause-ordered : goal.returns-clause-ordered
-returns-clause-ordered g c = rising g.K.Key.order g.K.Ord.cmp g.met.K.Key.agrees _ c.args.self.now.ordered
+returns-clause-ordered g c = rising g.K.Key.order _ c.args.self.now.ordered

@@ -21,7 +21,7 @@ pub put_among-requires-clause-fits : goal.put_among-requires-clause-fits
 put_among-requires-clause-fits g c = area_fits g.K.Key.order _ _ c.args.self.now.within _ c.entries.ensures.value _ _ _ c.in_ok-from.ensures
 
 pub invariant_of-self-clause-ordered : goal.invariant_of-self-clause-ordered
-invariant_of-self-clause-ordered g c = sorted g.K.Key.order g.K.Ord.cmp g.met.K.Key.agrees _ (puts_rising g.K.Key.order (rising g.K.Key.order g.K.Ord.cmp g.met.K.Key.agrees _ c.args.self.now.ordered) (all_in g (goal.at.invariant_of-self-clause-ordered g c).After-put_among).1)
+invariant_of-self-clause-ordered g c = sorted g.K.Key.order _ (puts_rising g.K.Key.order (rising g.K.Key.order _ c.args.self.now.ordered) (all_in g (goal.at.invariant_of-self-clause-ordered g c).After-put_among).1)
 
 pub returns-clause-put : goal.returns-clause-put
 returns-clause-put g c = all_in g (goal.at.returns-clause-put g c).After-put_among
