@@ -13,13 +13,14 @@ pub record TotalOrder {K : Type 0} (before : K → K → Type 0) : Type 0 where
   pub transitive : (a b c : K) → before a b → before b c → before a c
   pub total : (a b : K) → before a b ⊎ ((a ≡ b) ⊎ before b a)
 
--- how a stands to b
+-- which of three holds
 abbrev one_of_three : {P Q R : Type 0} → P ⊎ (Q ⊎ R) → Ordering
 one_of_three (inl p) = Less
 one_of_three (inr (inl q)) = Equal
 one_of_three (inr (inr r)) = Greater
 
 module _ {K : Type 0} {before : K → K → Type 0} where
+  -- how a stands to b in an order
   abbrev pub compared : TotalOrder before → K → K → Ordering
   compared order a b = one_of_three (order.total a b)
 

@@ -50,6 +50,7 @@ impl Workload {
     }
 }
 
+// The code's digits are put into an array, since a text on the heap would cost more than all else here.
 fn entry(supply: u32, hour: u32) -> anyhow::Result<Entry> {
     let mut code = *b"ES0000000000000000TR0F";
     let mut rest = supply;
